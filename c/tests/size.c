@@ -187,6 +187,19 @@ static void closed_when_full(void)
 	CHECK(held() == 0);
 }
 
+/* Closes a device that has given as many names as its history allows, and holds none of these entries. */
+static void closed_after_many_names(void)
+{
+	struct dsa_model device = enabled(1048576);
+	struct dsa_descriptor nothing = descriptor_of(0x00, 0, 0);
+	while (dsa_history_is_full(&device) == 0)
+		if (dsa_enqcmd(&device, 0, 0, DSA_UNLIMITED, 5, &nothing).kind == DSA_RETRY)
+			dsa_command(&device, DSA_COMMAND(DSA_ABORT_ALL, 0));
+	CHECK(dsa_next_name(&device) > 800000);
+	dsa_close(&device);
+	CHECK(held() == 0);
+}
+
 /* Closing one device leaves the other's memory, and the handle may be opened again, as often as one likes. */
 static void one_of_two(void)
 {
@@ -221,6 +234,7 @@ int main(void)
 	for (uint32_t count = 1; count <= 4096; count *= 2)
 		closed_with(count);
 	closed_when_full();
+	closed_after_many_names();
 	one_of_two();
 	return 0;
 }

@@ -3,6 +3,7 @@ pub mod Firsts
 pub mod Keys
 pub mod Nearest
 pub mod ReadTexts
+pub mod RowTexts
 pub mod Shallow
 pub mod Spots
 pub mod Steps

@@ -1,7 +1,7 @@
 -- The tables of keys say what the definitions of the objects say.
 use Rattle.dsa_check.specs.declared.fields.Form.TheVariants as form
 use Rattle.std.proofs.Common.{◌≡◌, ℕ, suc, ◌-◌, ◌^◌, Bool, true, false, ◌&&◌, cond, List, [], ◌∷◌, refl, sym}
-use Rattle.std.proofs.Common.{◌∙◌, arith}
+use Rattle.std.proofs.Common.{◌∙◌, arith, drop}
 use Rattle.std.specs.Prelude.{if◌then◌else◌, Option, Some, None, is_some, option_and_then, bytes_eq, codes}
 use Rattle.std.specs.Prelude.{nat_le, nat_lt, IfSome}
 use Rattle.dsa_regs.specs.Caps.{check_caps}
@@ -107,14 +107,7 @@ module _ (d : Data) where
   two_shorts first second = both (2 ^ 16) first second _ _ (short first) (short second)
 
   queue_config_has : is_some (queue_config_of d)
-      ≡ has_rows d (
-      (codes "size", bits 16) ∷
-      (codes "threshold", bits 16) ∷
-      (codes "dedicated", form.Truth) ∷
-      (codes "priority", bits 8) ∷
-      (codes "pasid", bits 32) ∷
-      (codes "batch", bits 8) ∷
-      (codes "xfer", bits 8) ∷ [])
+      ≡ has_rows d (drop 1 (rows_of_kind Queue))
   queue_config_has =
       needs _ _ _ _ (two_shorts (codes "size") (codes "threshold"))
       (λ m. needs _ _ _ _ (truth (codes "dedicated")) (λ dedicated. needs _ _ _ _ (byte (codes "priority")) (λ priority.

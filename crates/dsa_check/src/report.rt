@@ -92,6 +92,7 @@ fn add_unfit(text: &mut String, key: Key, found: Found, wanted: Form) -> Added
     text.push_str(" is wanted")
 }
 
+#[tactic(auto, using(std::proofs::lemmas::Grind::elements))]
 fn add_piece(text: &mut String, piece: &Piece) -> Added
     ensures { Adds result text.old text.new (piece_text piece.now) }
 {
@@ -120,6 +121,7 @@ fn add_closing(text: &mut String, is_array: bool, line: usize, column: usize) ->
     }
 }
 
+#[tactic(auto, using(std::proofs::lemmas::Grind::elements))]
 fn add_syntax_wanted(text: &mut String, wanted: Wanted) -> Added
     ensures { Adds result text.old text.new (wanted_text wanted) }
 {

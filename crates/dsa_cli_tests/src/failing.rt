@@ -152,6 +152,17 @@ fn faults_of_threads(rt: HostRuntime) {
     }
 }
 
+// What comes after a write that was refused is handed on too.
+#[test]
+fn written_after_a_refusal(rt: HostRuntime) {
+    let mut narrow = Narrow::new(rt.alloc(), Course::new((ALL, 0), true));
+    let mut writer = WatchedWriter::new(&mut narrow);
+    let refused = writer.write(b"some text").is_err();
+    let taken = writer.write(b"text").ok();
+    are_same(&rt, &[], &(refused, taken), &(true, Some(4)));
+    are_same(&rt, &[], &narrow.taken.as_slice(), &"text".as_bytes());
+}
+
 // A flush of a writer that is watched is handed on, and so is its error.
 #[test]
 fn flushed(rt: HostRuntime) {

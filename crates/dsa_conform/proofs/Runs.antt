@@ -3,10 +3,10 @@ use Rattle.dsa_book.specs.declared.answer.Reply.TheVariants as reply
 use Rattle.dsa_book.specs.declared.event.Event.TheVariants as event
 use Rattle.std.proofs.Common.{◌≡◌, ℕ, ◌+◌, ◌==◌, Bool, true, false, cond, List, [], ◌∷◌, ◌++◌, length, map, filter_map}
 use Rattle.std.proofs.Common.{Option, Some, None, option_map, Result, Ok, Err, refl, sym, ap, subst, ◌∙◌}
-use Rattle.std.proofs.Common.{append_assoc, append-nil, add-zero, arith, ◌<◌, take, get_or}
-use Rattle.std.proofs.lemmas.{Bool.{and_parts}, Option.{same_Some}, List.{length_push, take_more}}
+use Rattle.std.proofs.Common.{append_assoc, append-nil, add-zero, ◌<◌, take, get_or}
+use Rattle.std.proofs.lemmas.{Bool.{and_parts}, List.{length_push, take_more}}
 use Rattle.std.proofs.lemmas.List.Elements.{filter_map-append}
-use Rattle.std.specs.Prelude.{option_and_then, is_some, filter}
+use Rattle.std.specs.Prelude.{option_and_then, is_some}
 use Rattle.dsa_base.specs.Rows.{when}
 use Rattle.dsa_base.proofs.Tables.{not-both}
 use Rattle.dsa_regs.specs.declared.{Caps.{Caps}, Fault.{Fault}}
@@ -14,24 +14,23 @@ use Rattle.dsa_book.specs.declared.answer.{Ticket.{Ticket}, Reply.{Reply}, Submi
 use Rattle.dsa_book.specs.declared.answer.{FetchAnswer.TheVariants.{Fetched}, DispatchAnswer.TheVariants.{Taken}}
 use Rattle.dsa_book.specs.declared.answer.StartAnswer.TheVariants.{Started}
 use Rattle.dsa_book.specs.declared.event.{Event.{Event}, Step.{Step}, Kind.TheVariants.{Enqcmd, Movdir64b}}
-use Rattle.dsa_book.specs.{State.{State, opening}, Choice.{Choice, from_queue, choice_of}}
-use Rattle.dsa_book.specs.Machine.{next, is_stored, history_after, full_reply, is_full_reply, replay, stored_steps}
-use Rattle.dsa_book.specs.Machine.{may_follow, is_run_after, is_run}
+use Rattle.dsa_book.specs.{State.{State}, Choice.{Choice, from_queue, choice_of}}
+use Rattle.dsa_book.specs.Machine.{next, is_stored, history_after, full_reply, is_full_reply, stored_steps}
+use Rattle.dsa_book.specs.Machine.{may_follow, is_run_after}
 use Rattle.dsa_book.proofs.EqualReplies.{equal-replies}
-use Rattle.dsa_laws.specs.WellFormed.{IsWellFormed}
-use Rattle.dsa_answers.specs.Alike.{AreStatesAlike, AskAlike, TakeAlike, HeldAsGiven, IsTicketIn}
+use Rattle.dsa_answers.specs.Alike.{AreStatesAlike, AskAlike, TakeAlike, HeldAsGiven}
 use Rattle.dsa_answers.specs.Alike.{without_cell, given_after, ticket_named}
 use Rattle.dsa_answers.proofs.{Alike.{alike-next}, Given.{given-next, given-opening, name-of_named, ticket-of_named}}
 use Rattle.dsa_device.specs.Running.{Running, running_at_first, running_after, after_answer, IsReplay}
-use Rattle.dsa_device.proofs.{Known.{well_formed}, Steps.{answered_by_cases, answered-replay, Grows, grows}}
+use Rattle.dsa_device.proofs.{Known.{well_formed}, Steps.{answered_by_cases, answered-replay, grows}}
 use Rattle.dsa_scenario.specs.declared.actions.Action.{Action, TheVariants.{Ask, Finish, Refuse}}
 use Rattle.dsa_scenario.specs.declared.run.Record.{Record, TheVariants.{Stepped, Refused}}
-use Rattle.dsa_scenario.specs.{Lines.{record_text, reply_text}, Steps.{standing}}
+use Rattle.dsa_scenario.specs.{Lines.{reply_text}, Steps.{standing}}
 use Rattle.dsa_scenario.specs.Run.{ticket_given_by, given_by_reply, event_of, answered_by, AreOf, Leads, steps_of_records}
 use Rattle.dsa_scenario.proofs.{Records.{Goes, goes_on}, Walks.{stands}}
 use Rattle.dsa_conform.specs.Allowed.{AreSeenAlike}
 use Rattle.dsa_conform.specs.Run.{IsShownRun}
-use Rattle.dsa_conform.specs.Seen.{Seen, shows, nameless_reply, zf_of_step, AreShown}
+use Rattle.dsa_conform.specs.Seen.{Seen, nameless_reply, zf_of_step, AreShown}
 use Rattle.dsa_conform.specs.Ways.{AreDevicesAlike, AreNamedEnds, IsNamedEnd, IsStepOfRun, RunFrom, queue_of_reply, queue_of_record, queues_taken}
 use Rattle.dsa_conform.proofs.SeenAlike.{stepped, alike}
 
@@ -234,42 +233,39 @@ good_at_first caps capacity i = record { replay = i; given = given-opening caps 
 
 -- ---- replies that differ in cells alone
 
+-- what is the same where the cell is left out of a ticket is so for each reply
+alone : {T : Type 0} (of : Reply → T)
+    → ((t : Ticket) → of (reply.Submit (Accepted t)) ≡ of (without_cell (reply.Submit (Accepted t))))
+    → ((t : Ticket) (q : ℕ) → of (reply.Dispatch (Taken t q)) ≡ of (without_cell (reply.Dispatch (Taken t q))))
+    → ((t : Ticket) → of (reply.Fetch (Fetched t)) ≡ of (without_cell (reply.Fetch (Fetched t))))
+    → ((t : Ticket) → of (reply.Start (Started t)) ≡ of (without_cell (reply.Start (Started t))))
+    → (r : Reply) → of r ≡ of (without_cell r)
+alone of accepted taken fetched started (reply.Submit (Accepted t)) = accepted t
+alone of accepted taken fetched started (reply.Dispatch (Taken t q)) = taken t q
+alone of accepted taken fetched started (reply.Fetch (Fetched t)) = fetched t
+alone of accepted taken fetched started (reply.Start (Started t)) = started t
+alone of accepted taken fetched started _ = refl
+
 text-alone : (r : Reply) → reply_text r ≡ reply_text (without_cell r)
-text-alone (reply.Submit (Accepted t)) = refl
-text-alone (reply.Dispatch (Taken t q)) = refl
-text-alone (reply.Fetch (Fetched t)) = refl
-text-alone (reply.Start (Started t)) = refl
-text-alone _ = refl
+text-alone = alone reply_text (λ t. refl) (λ t q. refl) (λ t. refl) (λ t. refl)
 
 nameless-alone : (r : Reply) → nameless_reply r ≡ nameless_reply (without_cell r)
-nameless-alone (reply.Submit (Accepted t)) = refl
-nameless-alone (reply.Dispatch (Taken t q)) = refl
-nameless-alone (reply.Fetch (Fetched t)) = refl
-nameless-alone (reply.Start (Started t)) = refl
-nameless-alone _ = refl
+nameless-alone = alone nameless_reply (λ t. refl) (λ t q. refl) (λ t. refl) (λ t. refl)
 
 flag-alone : (e : Event) (r : Reply) → zf_of_step e r ≡ zf_of_step e (without_cell r)
-flag-alone (event.Submit client queue portal (Enqcmd pasid) desc) (reply.Submit (Accepted t)) = refl
-flag-alone (event.Submit client queue portal Movdir64b desc) (reply.Submit (Accepted t)) = refl
-flag-alone (event.Submit client queue portal kind desc) (reply.Dispatch (Taken t q)) = refl
-flag-alone (event.Submit client queue portal kind desc) (reply.Fetch (Fetched t)) = refl
-flag-alone (event.Submit client queue portal kind desc) (reply.Start (Started t)) = refl
-flag-alone (event.Submit client queue portal kind desc) _ = refl
-flag-alone _ r = refl
+flag-alone (event.Submit client queue portal (Enqcmd pasid) desc) =
+    alone (zf_of_step (event.Submit client queue portal (Enqcmd pasid) desc)) (λ t. refl) (λ t q. refl) (λ t. refl)
+    (λ t. refl)
+flag-alone (event.Submit client queue portal Movdir64b desc) =
+    alone (zf_of_step (event.Submit client queue portal Movdir64b desc)) (λ t. refl) (λ t q. refl) (λ t. refl)
+    (λ t. refl)
+flag-alone _ = λ r. refl
 
 stored-alone : (r : Reply) → is_stored r ≡ is_stored (without_cell r)
-stored-alone (reply.Submit (Accepted t)) = refl
-stored-alone (reply.Dispatch (Taken t q)) = refl
-stored-alone (reply.Fetch (Fetched t)) = refl
-stored-alone (reply.Start (Started t)) = refl
-stored-alone _ = refl
+stored-alone = alone is_stored (λ t. refl) (λ t q. refl) (λ t. refl) (λ t. refl)
 
 queue-alone : (r : Reply) → queue_of_reply r ≡ queue_of_reply (without_cell r)
-queue-alone (reply.Submit (Accepted t)) = refl
-queue-alone (reply.Dispatch (Taken t q)) = refl
-queue-alone (reply.Fetch (Fetched t)) = refl
-queue-alone (reply.Start (Started t)) = refl
-queue-alone _ = refl
+queue-alone = alone queue_of_reply (λ t. refl) (λ t q. refl) (λ t. refl) (λ t. refl)
 
 number_in : Choice → ℕ
 number_in (from_queue q) = q

@@ -7,6 +7,7 @@ use Rattle.dsa_book.specs.declared.answer.{Ticket.{Ticket}, DispatchAnswer.TheVa
 use Rattle.dsa_book.specs.declared.answer.{SubmitAnswer.{SubmitAnswer, TheVariants.{Accepted, Dropped}}}
 use Rattle.dsa_book.specs.declared.answer.{Cause.TheVariants.{AtLimit}, ClearAnswer.TheVariants.{Cleared}}
 use Rattle.dsa_book.specs.declared.answer.FinishAnswer.TheVariants.{Done}
+use Rattle.dsa_book.specs.declared.answer.PollAnswer.{PollAnswer, TheVariants.{Nothing}}
 use Rattle.dsa_book.specs.declared.answer.{IssueAnswer.TheVariants.{Ended}, WriteAnswer.TheVariants.{Written}}
 use Rattle.dsa_book.specs.declared.event.{Kind.TheVariants.{Enqcmd, Movdir64b}, Portal.TheVariants.{Limited}}
 use Rattle.dsa_desc.specs.declared.Outcome.TheVariants.{Success}
@@ -18,7 +19,7 @@ use Rattle.dsa_scenario.specs.declared.run.Record.{Record, TheVariants.{Stepped,
 use Rattle.dsa_scenario.specs.{Steps.{standing}, Worked.{record_ticket, stepped, fill, caps_of_a_run, queue_of_a_run}}
 use Rattle.dsa_scenario.specs.Worked.{group_of_a_run, records_of_a_run, submission_of_a_run, smallest_caps}
 use Rattle.dsa_scenario.specs.Worked.{smallest_caps_text, document_text}
-use Rattle.dsa_conform.specs.{declared.{told.{Line.{Line}, Told.{Told}}, way.Way.{Way}}, Seen.{Seen}}
+use Rattle.dsa_conform.specs.{declared.{told.{Line.{Line}, Told.{Told}}, way.Way.{Way}}, Seen.{Seen}, Ways.{RunFrom}}
 
 -- the text of an answer was seen
 abbrev pub answered : List ℕ → Seen
@@ -195,6 +196,20 @@ told_allowing why allowed = record { why = why; allowed = allowed }
 
 abbrev pub smallest_device_at_first : Running
 smallest_device_at_first = running_at_first smallest_caps 9
+
+-- it goes there by these records, of which this was seen
+abbrev pub GoesAtFirst : List (Action × Seen) → List Record → Running → Type 0
+GoesAtFirst observed records after = RunFrom [] smallest_device_at_first observed records after
+
+-- a poll of which this was seen, an answer to it, and the line of the one that it may have
+abbrev pub polled_with : Seen → List (Action × Seen)
+polled_with seen = (Ask event.Poll, seen) ∷ []
+
+abbrev pub poll_record : PollAnswer → Record
+poll_record answer = stepped event.Poll (reply.Poll answer)
+
+abbrev pub nothing_line : Record × List ℕ
+nothing_line = (poll_record Nothing, codes "allowed: nothing: no command is active\n")
 
 -- it is followed, with this capacity
 abbrev pub way_at_first : ℕ → Vec Ticket Global → Way

@@ -62,28 +62,6 @@ fn take<S: EntryStore>(device: &mut Device<S>, engine: u16, queue: u16) -> Recor
 }
 
 // A dispatch: the engine takes from the first queue where that shows what was seen.
-fn follow_dispatch<S: EntryStore>(
-    alloc: Global,
-    device: &mut Device<S>,
-    engine: u16,
-    seen: &Observed<'_>,
-) -> Result<Followed, AllocError>
-    requires { (length device.old.history == device.old.capacity) ≡ false }
-    ensures { IfOk result
-        (λ followed. IsFollowed device.old (Ok (event.Dispatch engine)) (seen_as seen.now)
-        device.new followed) }
-{
-    if let Some(queue) = find_shown(alloc, device, engine, seen)? {
-        return Ok(Followed::Shown(take(device, engine, queue)));
-    }
-    let found = offers(alloc, device, engine)?;
-    if found.as_slice().is_empty() {
-        return follow_only(alloc, device, &Ok(Event::Dispatch { engine }), seen);
-    }
-    Ok(Followed::Differs(found))
-}
-
-// The same, where the history may be full.
 fn follow_engine<S: EntryStore>(
     alloc: Global,
     device: &mut Device<S>,
@@ -97,7 +75,14 @@ fn follow_engine<S: EntryStore>(
     if device.is_full() {
         return follow_only(alloc, device, &Ok(Event::Dispatch { engine }), seen);
     }
-    follow_dispatch(alloc, device, engine, seen)
+    if let Some(queue) = find_shown(alloc, device, engine, seen)? {
+        return Ok(Followed::Shown(take(device, engine, queue)));
+    }
+    let found = offers(alloc, device, engine)?;
+    if found.as_slice().is_empty() {
+        return follow_only(alloc, device, &Ok(Event::Dispatch { engine }), seen);
+    }
+    Ok(Followed::Differs(found))
 }
 
 /// Goes on by an answer that is allowed and shows what was seen, or tells all that are allowed

@@ -32,7 +32,7 @@ ghost use Rattle.dsa_conform.specs.declared.{told.Told.{Told}, way.Way.{Way}};
 ghost use Rattle.dsa_book.specs.declared.answer.Ticket.{Ticket};
 ghost use Rattle.dsa_conform.specs.ToldLines.{AddsLines, AreLinesTold, HasText, IsLineOf, IsLinePlaced, IsPlaceOf, IsTextTold};
 ghost use Rattle.dsa_conform.specs.Ways.{queue_of_record, queues_taken, AreAdded, AreDevicesAlike, AreFollowed, AreGone, AreGoneOn, AreNamedEnds, AreOn, AreStepped, Covers, IsAdded, IsEngineAlike, IsFollowedOn, IsGone, IsGoneOn, IsOn, IsOneGone, IsReadTo, IsTold, IsWayBy, IsFork, IsNamedEnd, IsOneWay, IsQueueAlike, RunFrom};
-ghost use Rattle.dsa_conform.specs.Worked.{caps_of_two_queues, observed_of_an_error, records_of_one_error, records_of_two_errors, cleared, no_cells, told_allowing, way_at_first, records_of_two_queues, observed_of_two_queues, end_of_second, caps_of_three_queues, answered, flagged, answered_with, nothing_seen, by_enqcmd, by_movdir, observed_of_a_run, record_of_a_take, idle_words, from_first, from_second, from_third, after_some, after_all, after_a_take, line_of, smallest_device_at_first, document_of, poll_with};
+ghost use Rattle.dsa_conform.specs.Worked.{caps_of_two_queues, observed_of_an_error, records_of_one_error, records_of_two_errors, cleared, no_cells, told_allowing, way_at_first, records_of_two_queues, observed_of_two_queues, end_of_second, caps_of_three_queues, answered, flagged, answered_with, nothing_seen, by_enqcmd, by_movdir, observed_of_a_run, record_of_a_take, idle_words, from_first, from_second, from_third, after_some, after_all, after_a_take, line_of, smallest_device_at_first, document_of, poll_with, GoesAtFirst, polled_with, poll_record, nothing_line};
 
 /// What a step object says was seen.
 pub fn observations()
@@ -73,39 +73,27 @@ pub fn counts()
 /// Lines, with and without names.
 #[tactic(auto, unfolding(dsa_scenario::specs::Worked::digits_on_literals))]
 pub fn lines()
-    ensures accepted { shows (answered (codes "accepted 12"))
-        (by_enqcmd (Accepted (record_ticket 3 12)))
-        ≡ true }
-    ensures nameless { shows (answered (codes "accepted"))
-        (by_enqcmd (Accepted (record_ticket 3 12)))
-        ≡ true }
-    ensures other_name { shows (answered (codes "accepted 13"))
-        (by_enqcmd (Accepted (record_ticket 3 12)))
-        ≡ false }
-    ensures more { shows (answered (codes "accepted 12 "))
-        (by_enqcmd (Accepted (record_ticket 3 12)))
-        ≡ false }
-    ensures other_kind { shows (answered (codes "retry at-limit"))
-        (by_enqcmd (Accepted (record_ticket 3 12)))
-        ≡ false }
+    ensures accepted { map (λ text. shows (answered text)
+        (by_enqcmd (Accepted (record_ticket 3 12))))
+        (codes "accepted 12" ∷ codes "accepted" ∷ codes "accepted 13" ∷ codes "accepted 12 "
+        ∷ codes "retry at-limit" ∷ [])
+        ≡ true ∷ true ∷ replicate 3 false }
     ensures half { shows (answered (codes "retry")) (by_enqcmd (Retry AtLimit)) ≡ false }
-    ensures taken { shows (answered (codes "taken 7 from 1")) (record_of_a_take 7 1) ≡ true }
-    ensures taken_nameless { shows (answered (codes "taken from 1")) (record_of_a_take 7 1) ≡ true }
-    ensures other_queue { shows (answered (codes "taken from 0")) (record_of_a_take 7 1) ≡ false }
-    ensures no_queue { shows (answered (codes "taken 7")) (record_of_a_take 7 1) ≡ false }
-    ensures fetched { shows (answered (codes "fetched"))
-        (stepped (event.Fetch 0 fill) (reply.Fetch (Fetched (record_ticket 1 2))))
-        ≡ true }
+    ensures taken { map (λ text. shows (answered text) (record_of_a_take 7 1))
+        (codes "taken 7 from 1" ∷ codes "taken from 1" ∷ codes "taken from 0" ∷ codes "taken 7"
+        ∷ codes "taken" ∷ [])
+        ≡ true ∷ true ∷ replicate 3 false }
+    ensures fetched { map (λ text. shows (answered text)
+        (stepped (event.Fetch 0 fill) (reply.Fetch (Fetched (record_ticket 1 2)))))
+        (codes "fetched" ∷ codes "fetched 3" ∷ [])
+        ≡ true ∷ false ∷ [] }
     ensures started { shows (answered (codes "started"))
         (stepped (event.Start 0) (reply.Start (Started (record_ticket 1 2))))
         ≡ true }
-    ensures refused { shows (answered (codes "refused 13 BadCommand")) (Refused BadCommand) ≡ true }
-    ensures other_fault { shows (answered (codes "refused 13 BadCommand")) (Refused Busy) ≡ false }
+    ensures refused { map (λ fault. shows (answered (codes "refused 13 BadCommand"))
+        (Refused fault)) (BadCommand ∷ Busy ∷ [])
+        ≡ true ∷ false ∷ [] }
     ensures anything { shows nothing_seen (record_of_a_take 7 1) ≡ true }
-    ensures taken_alone { shows (answered (codes "taken")) (record_of_a_take 7 1) ≡ false }
-    ensures other_fetched { shows (answered (codes "fetched 3"))
-        (stepped (event.Fetch 0 fill) (reply.Fetch (Fetched (record_ticket 1 2))))
-        ≡ false }
     ensures no_fault { shows (answered (codes "refused")) (Refused BadCommand) ≡ false }
     ensures empty { shows (answered []) (by_enqcmd Full) ≡ false }
 {}
@@ -199,7 +187,7 @@ pub fn allowed()
     ensures idle { ¬ IsAllowed after_all (Ok (event.Dispatch 0))
         (stepped (event.Dispatch 0) (reply.Dispatch Idle)) }
     ensures other_event { ¬ IsAllowed after_all (Ok (event.Dispatch 0))
-        (stepped event.Poll (reply.Poll Nothing)) }
+        (poll_record Nothing) }
     ensures word { IsAllowed smallest_device_at_first (Err BadCommand) (Refused BadCommand) }
     ensures other_word { ¬ IsAllowed smallest_device_at_first (Err BadCommand) (Refused Busy) }
     ensures all { AreAllowed after_all (Ok (event.Dispatch 0)) (from_first ∷ from_second ∷ []) }
@@ -216,18 +204,17 @@ pub fn allowed()
 #[tactic(auto, unfolding(dsa_scenario::specs::Worked::digits_on_literals))]
 pub fn followed()
     ensures step { IsFollowed smallest_device_at_first (Ok event.Poll) (answered (codes "nothing"))
-        smallest_device_at_first (Shown (stepped event.Poll (reply.Poll Nothing))) }
+        smallest_device_at_first (Shown (poll_record Nothing)) }
     ensures refused { IsFollowed smallest_device_at_first (Err BadCommand)
         (answered (codes "refused 13 BadCommand")) smallest_device_at_first
         (Shown (Refused BadCommand)) }
-    ensures not_seen { ¬ IsFollowed smallest_device_at_first (Err BadCommand)
-        (answered (codes "nothing")) smallest_device_at_first (Shown (Refused BadCommand)) }
-    ensures not_asked { ¬ IsFollowed smallest_device_at_first (Ok event.Poll)
+    ensures others { ¬ IsFollowed smallest_device_at_first (Err BadCommand)
+        (answered (codes "nothing")) smallest_device_at_first (Shown (Refused BadCommand))
+        × ¬ IsFollowed smallest_device_at_first (Ok event.Poll)
         (answered (codes "refused 13 BadCommand")) smallest_device_at_first
-        (Shown (Refused BadCommand)) }
-    ensures not_allowed { ¬ IsFollowed smallest_device_at_first (Ok event.Poll)
-        (answered (codes "active")) smallest_device_at_first
-        (Shown (stepped event.Poll (reply.Poll Active))) }
+        (Shown (Refused BadCommand))
+        × ¬ IsFollowed smallest_device_at_first (Ok event.Poll)
+        (answered (codes "active")) smallest_device_at_first (Shown (poll_record Active)) }
     ensures shown { (v : Vec Record Global)
         → ¬ IsFollowed smallest_device_at_first (Ok event.Poll) (answered (codes "nothing"))
         smallest_device_at_first (followed.Differs v) }
@@ -255,13 +242,11 @@ pub fn a_run()
     ensures more { ¬ AreShown [] (Refused BadCommand ∷ []) }
     ensures second_not_shown { ¬ AreShown (nothing_seen ∷ answered (codes "idle") ∷ [])
         (Refused BadCommand ∷ Refused BadCommand ∷ []) }
-    ensures not_shown { ¬ IsShownRun smallest_caps 9
-        ((Refuse BadCommand, answered (codes "nothing")) ∷ []) (Refused BadCommand ∷ []) }
-    ensures not_asked { ¬ IsShownRun smallest_caps 9 ((Ask event.Poll, nothing_seen) ∷ [])
-        (Refused BadCommand ∷ []) }
-    ensures not_allowed { ¬ IsShownRun smallest_caps 9
-        ((Ask event.Poll, answered (codes "active")) ∷ [])
-        (stepped event.Poll (reply.Poll Active) ∷ []) }
+    ensures others { ¬ IsShownRun smallest_caps 9
+        ((Refuse BadCommand, answered (codes "nothing")) ∷ []) (Refused BadCommand ∷ [])
+        × ¬ IsShownRun smallest_caps 9 (polled_with nothing_seen) (Refused BadCommand ∷ [])
+        × ¬ IsShownRun smallest_caps 9 (polled_with (answered (codes "active")))
+        (poll_record Active ∷ []) }
 {}
 
 /// What is told.
@@ -277,8 +262,8 @@ pub fn texts()
         "step 17: dispatch e0\nseen: idle\nallowed: taken 7 from 0\nallowed: taken 9 from 2\n" }
     ensures poll { difference_text 3 (answered (codes "active"))
         ((
-          stepped event.Poll (reply.Poll Nothing),
-          allowed_line (codes ": no command is active") (stepped event.Poll (reply.Poll Nothing)),
+          poll_record Nothing,
+          allowed_line (codes ": no command is active") (poll_record Nothing),
         )
         ∷ [])
         ≡ codes "step 3: poll\nseen: active\nallowed: nothing: no command is active\n" }
@@ -466,17 +451,12 @@ pub fn ways()
         ((Ask event.Poll, nothing_seen)
         ∷ (Ask (event.Finish 0 (record_ticket 3 0) Success), nothing_seen)
         ∷ []) }
-    ensures run { RunFrom [] smallest_device_at_first
-        ((Ask event.Poll, answered (codes "nothing")) ∷ [])
-        (stepped event.Poll (reply.Poll Nothing) ∷ [])
+    ensures run { GoesAtFirst (polled_with (answered (codes "nothing"))) (poll_record Nothing ∷ [])
         smallest_device_at_first }
-    ensures no_run { RunFrom [] smallest_device_at_first [] [] smallest_device_at_first }
-    ensures elsewhere { ¬ RunFrom [] smallest_device_at_first [] []
-        (running_at_first smallest_caps 8) }
-    ensures fewer { ¬ RunFrom [] smallest_device_at_first ((Ask event.Poll, nothing_seen) ∷ []) []
-        smallest_device_at_first }
-    ensures more { ¬ RunFrom [] smallest_device_at_first [] (Refused BadCommand ∷ [])
-        smallest_device_at_first }
+    ensures no_run { GoesAtFirst [] [] smallest_device_at_first }
+    ensures elsewhere { ¬ GoesAtFirst [] [] (running_at_first smallest_caps 8) }
+    ensures fewer { ¬ GoesAtFirst (polled_with nothing_seen) [] smallest_device_at_first }
+    ensures more { ¬ GoesAtFirst [] (Refused BadCommand ∷ []) smallest_device_at_first }
     ensures by_names { RunFrom [] (running_at_first caps_of_a_run 7) (take 8 observed_of_a_run)
         (take 8 records_of_a_run)
         (standing caps_of_a_run 7 (take 8 records_of_a_run)) }
@@ -487,20 +467,14 @@ pub fn ways()
         ∷ stepped (event.Finish 0 (record_ticket 5 0) Success) (reply.Finish Gone)
         ∷ [])
         (standing caps_of_a_run 9 (take 6 records_of_a_run)) }
-    ensures other_end { ¬ RunFrom [] smallest_device_at_first
-        ((Ask event.Poll, answered (codes "nothing")) ∷ [])
-        (stepped event.Poll (reply.Poll Nothing) ∷ [])
-        (running_at_first smallest_caps 8) }
-    ensures not_allowed { ¬ RunFrom [] smallest_device_at_first
-        ((Ask event.Poll, answered (codes "active")) ∷ [])
-        (stepped event.Poll (reply.Poll Active) ∷ [])
+    ensures other_end { ¬ GoesAtFirst (polled_with (answered (codes "nothing")))
+        (poll_record Nothing ∷ []) (running_at_first smallest_caps 8) }
+    ensures not_allowed { ¬ GoesAtFirst (polled_with (answered (codes "active")))
+        (poll_record Active ∷ []) smallest_device_at_first }
+    ensures not_answered { ¬ GoesAtFirst (polled_with nothing_seen) (Refused BadCommand ∷ [])
         smallest_device_at_first }
-    ensures not_answered { ¬ RunFrom [] smallest_device_at_first
-        ((Ask event.Poll, nothing_seen) ∷ []) (Refused BadCommand ∷ []) smallest_device_at_first }
-    ensures not_seen { ¬ RunFrom [] smallest_device_at_first
-        ((Ask event.Poll, answered (codes "active")) ∷ [])
-        (stepped event.Poll (reply.Poll Nothing) ∷ [])
-        smallest_device_at_first }
+    ensures not_seen { ¬ GoesAtFirst (polled_with (answered (codes "active")))
+        (poll_record Nothing ∷ []) smallest_device_at_first }
 {}
 
 /// The reason that a device has after a run that shows what was seen.
@@ -520,48 +494,29 @@ pub fn reasons()
 #[tactic(auto, unfolding(dsa_scenario::specs::Worked::digits_on_literals))]
 pub fn allowed_lines()
     ensures line { IsAllowedLine smallest_caps 9 ((Refuse BadCommand, nothing_seen) ∷ [])
-        (Ask event.Poll) (stepped event.Poll (reply.Poll Nothing))
+        (Ask event.Poll) (poll_record Nothing)
         (codes "allowed: nothing: no command is active\n") }
     ensures no_run { ¬ IsAllowedLine smallest_caps 9
         ((Refuse BadCommand, answered (codes "nothing")) ∷ []) (Ask event.Poll)
-        (stepped event.Poll (reply.Poll Nothing))
+        (poll_record Nothing)
         (codes "allowed: nothing: no command is active\n") }
     ensures not_allowed { ¬ IsAllowedLine smallest_caps 9 [] (Ask event.Poll)
-        (stepped event.Poll (reply.Poll Active))
+        (poll_record Active)
         (codes "allowed: active: no command is active\n") }
     ensures no_reason { ¬ IsAllowedLine smallest_caps 9 [] (Ask event.Poll)
-        (stepped event.Poll (reply.Poll Nothing)) (codes "allowed: nothing\n") }
+        (poll_record Nothing) (codes "allowed: nothing\n") }
     ensures all { AreAllLines smallest_caps 9 ((Refuse BadCommand, nothing_seen) ∷ [])
-        (Ask event.Poll)
-        ((
-          stepped event.Poll (reply.Poll Nothing),
-          codes "allowed: nothing: no command is active\n",
-        )
-        ∷ []) }
+        (Ask event.Poll) (nothing_line ∷ []) }
     ensures another { ¬ AreAllLines smallest_caps 9 [] (Ask event.Poll)
-        ((
-          stepped event.Poll (reply.Poll Nothing),
-          codes "allowed: nothing: no command is active\n",
-        )
-        ∷ (
-          stepped event.Poll (reply.Poll Active),
-          codes "allowed: active: no command is active\n",
-        )
+        (nothing_line
+        ∷ (poll_record Active, codes "allowed: active: no command is active\n")
         ∷ []) }
     ensures none { ¬ AreAllLines smallest_caps 9 [] (Ask event.Poll) [] }
     ensures left_out { ¬ AreAllLines caps_of_three_queues 9 (take 8 observed_of_two_queues)
         (Ask (event.Dispatch 0))
         ((from_first, codes "allowed: taken 0 from 0\n") ∷ []) }
     ensures twice { ¬ AreAllLines smallest_caps 9 [] (Ask event.Poll)
-        ((
-          stepped event.Poll (reply.Poll Nothing),
-          codes "allowed: nothing: no command is active\n",
-        )
-        ∷ (
-          stepped event.Poll (reply.Poll Nothing),
-          codes "allowed: nothing: no command is active\n",
-        )
-        ∷ []) }
+        (nothing_line ∷ nothing_line ∷ []) }
 {}
 
 /// A line whose text begins with that of another answer, which has no line.
@@ -724,7 +679,7 @@ pub fn devices_added()
     ensures told { (why : String Global)
         → (allowed : Vec Record Global)
         → string_bytes why ≡ codes ": no command is active"
-        → allowed.items ≡ stepped event.Poll (reply.Poll Nothing) ∷ []
+        → allowed.items ≡ poll_record Nothing ∷ []
         → IsTold smallest_device_at_first (Ok event.Poll) (answered (codes "active"))
         (told_allowing why allowed) }
     ensures other_reason { (why : String Global)

@@ -34,36 +34,6 @@ fn reason_of<S: EntryStore>(
     Ok(told)
 }
 
-// A step of which something was seen.
-fn walk_seen(
-    alloc: Global,
-    way: &mut Way,
-    action: Action,
-    seen: &Observed<'_>,
-) -> Result<Option<Told>, AllocError>
-    requires { (caps : Caps) → (capacity : ℕ) → (done : List (Action × Seen)) → (number : ℕ)
-        → (h : IsFollowedTo caps capacity done number way.old.device way.old.tickets.items)
-        → IsOneWay way.old.device (event_of h.records action) (seen_as seen.now) }
-    ensures { IfOk result (λ told. (caps : Caps) → (capacity : ℕ) → (done : List (Action × Seen))
-        → (number : ℕ)
-        → IsNamedEnd action
-        → (h : IsFollowedTo caps capacity done number way.old.device way.old.tickets.items)
-        → IsFollowedOn caps capacity (done ++ (action, seen_as seen.now) ∷ []) (number + 1)
-        way.new told
-        × IsOn way.old.device (event_of h.records action) (seen_as seen.now) way.new told) }
-{
-    let asked = event_for(way.tickets.as_slice(), action);
-    let why = reason_of(alloc, &way.device, &asked)?;
-    let followed = follow(alloc, &mut way.device, &asked, seen)?;
-    match followed {
-        Followed::Shown(entry) => {
-            note_ticket(&mut way.tickets, &entry)?;
-            Ok(None)
-        }
-        Followed::Differs(allowed) => Ok(Some(Told { why, allowed })),
-    }
-}
-
 /// A step where all answers that show what was seen tell of the same queue, or of none: the device
 /// goes on, or what it allows is told.
 pub fn walk_step(
@@ -83,11 +53,19 @@ pub fn walk_step(
         way.new told
         × IsOn way.old.device (event_of h.records action) (seen_as seen.now) way.new told) }
 {
-    if seen.is_seen() {
-        return walk_seen(alloc, way, action, seen);
-    }
     let asked = event_for(way.tickets.as_slice(), action);
-    let entry = ask(&mut way.device, &asked);
-    note_ticket(&mut way.tickets, &entry)?;
-    Ok(None)
+    if !seen.is_seen() {
+        let entry = ask(&mut way.device, &asked);
+        note_ticket(&mut way.tickets, &entry)?;
+        return Ok(None);
+    }
+    let why = reason_of(alloc, &way.device, &asked)?;
+    let followed = follow(alloc, &mut way.device, &asked, seen)?;
+    match followed {
+        Followed::Shown(entry) => {
+            note_ticket(&mut way.tickets, &entry)?;
+            Ok(None)
+        }
+        Followed::Differs(allowed) => Ok(Some(Told { why, allowed })),
+    }
 }

@@ -115,25 +115,6 @@ fn add_lines(text: &mut String, lines: &[Line]) -> Result<(), AllocError>
     Ok(())
 }
 
-fn text_of(
-    alloc: Global,
-    number: usize,
-    seen: &Observed<'_>,
-    lines: &[Line],
-) -> Result<String, AllocError>
-    ensures { IfOk result
-        (λ text. string_bytes text
-        ≡ difference_text number (seen_as seen.now) (map line_as lines.now)) }
-{
-    let mut text = String::new(alloc);
-    if let Some(first) = lines.first() {
-        add_step(&mut text, number, &first.entry)?;
-        add_seen(&mut text, seen)?;
-        add_lines(&mut text, lines)?;
-    }
-    Ok(text)
-}
-
 /// The step of this number, what was seen of it, and what each device allowed, each line once.
 pub fn told_text(
     alloc: Global,
@@ -144,6 +125,13 @@ pub fn told_text(
     ensures { IfOk result
         (λ text. IsTextTold number (seen_as seen.now) tolds.now (string_bytes text)) }
 {
-    let lines = lines_of(alloc, tolds)?;
-    text_of(alloc, number, seen, lines.as_slice())
+    let found = lines_of(alloc, tolds)?;
+    let lines = found.as_slice();
+    let mut text = String::new(alloc);
+    if let Some(first) = lines.first() {
+        add_step(&mut text, number, &first.entry)?;
+        add_seen(&mut text, seen)?;
+        add_lines(&mut text, lines)?;
+    }
+    Ok(text)
 }

@@ -157,35 +157,6 @@ fn count_taken(taken: usize, entry: &Record) -> usize
     }
 }
 
-// A device that goes the first steps, and takes from these queues in turn, as far as it may.
-fn walk_first(
-    alloc: Global,
-    head: &Head<'_>,
-    count: usize,
-    choices: &[u16],
-) -> Result<Way, AllocError>
-    requires inside { count ≤ length head.now.steps.now }
-    requires read { (observed : List (Action × Seen))
-        × AreRead (map view head.now.steps.now) observed }
-    ensures { IfOk result (λ way. (observed : List (Action × Seen))
-        → AreRead (map view head.now.steps.now) observed
-        → IsFollowedTo head.now.caps head.now.capacity (take count observed) count
-        way.device way.tickets.items) }
-{
-    let mut way = first_way(alloc, head)?;
-    let mut taken = 0;
-    for i in 0..count {
-        let step = &head.steps[i];
-        let Some((action, seen)) = parse_step(step) else {
-            unreachable!();
-        };
-        let queue = choices.get(taken).copied();
-        let entry = step_again(alloc, &mut way, queue, action, &seen)?;
-        taken = count_taken(taken, &entry);
-    }
-    Ok(way)
-}
-
 // Whether the device took from these queues in turn.
 fn took_from(alloc: Global, way: &Way, choices: &[u16]) -> Result<bool, AllocError>
     ensures { IfOk result
@@ -209,7 +180,17 @@ pub fn walk_again(
         (λ way. IsWayBy head.now.caps head.now.capacity (map view head.now.steps.now) count
         choices.now way) }
 {
-    let way = walk_first(alloc, head, count, choices)?;
+    let mut way = first_way(alloc, head)?;
+    let mut taken = 0;
+    for i in 0..count {
+        let step = &head.steps[i];
+        let Some((action, seen)) = parse_step(step) else {
+            unreachable!();
+        };
+        let queue = choices.get(taken).copied();
+        let entry = step_again(alloc, &mut way, queue, action, &seen)?;
+        taken = count_taken(taken, &entry);
+    }
     if !took_from(alloc, &way, choices)? {
         return Err(AllocError);
     }

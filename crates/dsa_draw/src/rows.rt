@@ -37,7 +37,7 @@ ghost use Rattle.dsa_draw.specs.Rows.{label_above_text, asker_of, asker_mark_tex
 ghost use Rattle.dsa_draw.specs.Bars.{bars_of, end_step, engine_of_actor, is_batch_named, free_place, in_lanes, all_lanes, lane_number, lanes_taken, is_bar_of};
 ghost use Rattle.dsa_draw.specs.Engines.{bar_text, bars_text, batches_text, bars_in_lanes, box_part_text, bar_name_text, bar_title_text, class_of_end, class_of_fate, end_phrase, engine_bottom, engine_end, engine_marks_text, engine_part_text, engines_end, engines_text, fate_phrase, has_steps, is_step_by, lane_by, lanes_high, lanes_of, name_room, parent_phrase};
 ghost use Rattle.dsa_draw.specs.Worked.{bar_from, end_at, ended_row, five_lanes, group_band, moment_of, moments_of_a_batch, queue_band};
-ghost use Rattle.dsa_draw.specs.Worked.{device_of_a_drawing, idle_step, level, moment_of_a_device, moments_of_a_third_name, moments_with_levels, story, story_of_a_device, story_with, vector, visit_of_a_device};
+ghost use Rattle.dsa_draw.specs.Worked.{caps_of_a_drawing, device_of_a_drawing, idle_step, level, moment_of_a_device, moments_of_a_third_name, moments_with_levels, story, story_of_a_device, story_with, vector, visit_of_a_device};
 
 /// The width of a page, its head, names of rows, lines, and marks in the column of a step.
 #[tactic(auto, unfolding(crate::specs::Worked::drawn_on_literals))]
@@ -122,16 +122,7 @@ pub fn bands()
     ensures none { bands_text 3 152 (queue_band 0 ∷ []) [] ≡ [] }
     ensures same_place { next_top 152 (queue_band 0) [] ≡ 152 }
     ensures of_a_device { bands_of
-        (record {
-          queues = 2;
-          groups = 1;
-          engines = 3;
-          total_size = 4;
-          read_buffers = 5;
-          slots = 6;
-          max_batch_shift = 7;
-          max_xfer_shift = 8;
-        })
+        (record caps_of_a_drawing { queues = 2; groups = 1; engines = 3 })
         ≡ queue_band 0 ∷ queue_band 1 ∷ group_band 0 ∷ [] }
 {}
 

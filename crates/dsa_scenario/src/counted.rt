@@ -1,6 +1,6 @@
 //! A reader that is counted.
 
-ghost use Rattle.std.specs.Prelude.{◌≡◌, ◌⊎◌, ◌<◌, ◌≤◌, ◌+◌, ◌^◌, false, OnOk, OnErr, IfOk, IfErr};
+ghost use Rattle.std.specs.Prelude.{◌≡◌, ◌⊎◌, ◌<◌, ◌≤◌, ◌+◌, ◌^◌, false, length, OnOk, OnErr, IfOk, IfErr, IsErrOf};
 ghost use Rattle.std.specs.Io.{ReadsAtMost};
 ghost use Rattle.std.specs.Io.KnownBytes.{ReadConsumes};
 ghost use Rattle.dsa_scenario.specs.Counted.{counted_remaining, asked_of, given_of, last_given};
@@ -41,14 +41,20 @@ impl<'r, R: Read> CountedReader<'r, R> {
         }
     }
 
-    /// One read. Want of memory says that its number or that of the bytes may not fit, and then the
-    /// reader is not asked.
+    /// One read, which is counted where the reader is asked. Want of memory says that the number of
+    /// reads or that of bytes may not fit, and then the reader is not asked.
     pub fn read_once(&mut self, chunk: &mut [u8]) -> Result<usize, ScenarioFault>
         ensures bound { ReadsAtMost result chunk.new }
         ensures bytes { ReadConsumes (counted_remaining R.remaining self.old)
             (counted_remaining R.remaining self.new) result chunk.new }
         ensures same_reader { IsSameReader self.old self.new }
         ensures counted { OnOk result (asked_of self.new ≡ asked_of self.old + 1) }
+        ensures tried { IsErrOf result ScenarioFault.Read
+            → asked_of self.new ≡ asked_of self.old + 1 }
+        ensures memory { IsErrOf result ScenarioFault.OutOfMemory
+            → (self.new ≡ self.old)
+            × ((2 ^ 64 ≤ asked_of self.old + 1)
+            ⊎ (2 ^ 64 ≤ given_of self.old + length chunk.old)) }
         ensures once { asked_of self.new ≤ asked_of self.old + 1 }
         ensures fits { asked_of self.new < 2 ^ 64 }
         ensures given { IfOk result (λ count. given_of self.new ≡ given_of self.old + count) }

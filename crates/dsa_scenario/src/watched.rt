@@ -54,6 +54,7 @@ impl<'w, W: Write> WatchedWriter<'w, W> {
         ensures same_writer { IsSameWriter self.old self.new }
         ensures kept { has_refused self.old ≡ true → has_refused self.new ≡ true }
         ensures refused { IsErr result → has_refused self.new ≡ true }
+        ensures well { OnOk result (has_refused self.new ≡ has_refused self.old) }
         ensures taken { OnOk result
             (IfSome (D.output text)
             (Appends (watched_contents W.contents self.old)
@@ -84,6 +85,8 @@ impl<W: Write> Write for WatchedWriter<'_, W> {
         ensures failed { IsErr result → has_refused self.new ≡ true }
         ensures took_none { 0 < length buf.now → result ≡ Ok 0 → has_refused self.new ≡ true }
         ensures took { IfOk result (λ n. 0 < n → has_refused self.new ≡ has_refused self.old) }
+        ensures empty { length buf.now ≡ 0
+            → OnOk result (has_refused self.new ≡ has_refused self.old) }
         ensures closed { IfErr result
             (λ e. error_kind e ≡ ErrorKind.BrokenPipe → is_closed self.new ≡ true) }
         ensures other { IfErr result

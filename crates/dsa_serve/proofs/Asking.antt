@@ -10,8 +10,10 @@ use Rattle.dsa_serve.specs.declared.requests.Request.{Request, TheVariants.{Step
 use Rattle.dsa_serve.specs.Requests.{Asks, AreAsked, request_by, request_of, explained_of}
 
 -- a line that is short when cut is whole
-whole : (line : List ℕ) → length (take (2 ^ 20 + 1) line) ≤ 2 ^ 20 → take (2 ^ 20 + 1) line ≡ line
-whole line short = take_all (2 ^ 20 + 1) line (omega (arith, length-take (2 ^ 20 + 1) line, short))
+whole : (line kept : List ℕ) → kept ≡ take (2 ^ 20 + 1) line → length kept ≤ 2 ^ 20 → kept ≡ line
+whole line kept is short =
+    let cut : length (take (2 ^ 20 + 1) line) ≤ 2 ^ 20 = rw is at short in
+    is ∙ take_all (2 ^ 20 + 1) line (omega (arith, length-take (2 ^ 20 + 1) line, cut))
 
 -- one byte more than a line has shows what the line asks
 pub Asks-kept : (line kept : List ℕ) (request : Request) → kept ≡ take (2 ^ 20 + 1) line → Asks kept request
@@ -19,18 +21,10 @@ pub Asks-kept : (line kept : List ℕ) (request : Request) → kept ≡ take (2 
 Asks-kept line kept (Fault TooLong) is long =
     let long : 2 ^ 20 < length (take (2 ^ 20 + 1) line) = rw is at long in
     omega (arith, length-take (2 ^ 20 + 1) line, long)
-Asks-kept line kept (Fault NotJson) is h =
-    let short : length (take (2 ^ 20 + 1) line) ≤ 2 ^ 20 = rw is at h.0 in
-    subst (λ l. Asks l (Fault NotJson)) (is ∙ whole line short) h
-Asks-kept line kept (Fault NoStep) is h =
-    let short : length (take (2 ^ 20 + 1) line) ≤ 2 ^ 20 = rw is at h.0 in
-    subst (λ l. Asks l (Fault NoStep)) (is ∙ whole line short) h
-Asks-kept line kept (Step action) is h =
-    let short : length (take (2 ^ 20 + 1) line) ≤ 2 ^ 20 = rw is at h.0 in
-    subst (λ l. Asks l (Step action)) (is ∙ whole line short) h
-Asks-kept line kept (Explain action) is h =
-    let short : length (take (2 ^ 20 + 1) line) ≤ 2 ^ 20 = rw is at h.0 in
-    subst (λ l. Asks l (Explain action)) (is ∙ whole line short) h
+Asks-kept line kept (Fault NotJson) is h = subst (λ l. Asks l (Fault NotJson)) (whole line kept is h.0) h
+Asks-kept line kept (Fault NoStep) is h = subst (λ l. Asks l (Fault NoStep)) (whole line kept is h.0) h
+Asks-kept line kept (Step action) is h = subst (λ l. Asks l (Step action)) (whole line kept is h.0) h
+Asks-kept line kept (Explain action) is h = subst (λ l. Asks l (Explain action)) (whole line kept is h.0) h
 
 -- one line more
 pub AreAsked-more : (lines : List (List ℕ)) (requests : List Request) (line : List ℕ) (request : Request)

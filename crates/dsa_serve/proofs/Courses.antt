@@ -5,9 +5,9 @@ use Rattle.dsa_regs.specs.declared.Caps.{Caps}
 use Rattle.dsa_book.specs.declared.{answer.Ticket.{Ticket}, fate.FateRow.{FateRow}}
 use Rattle.dsa_device.specs.Running.{Running}
 use Rattle.dsa_scenario.specs.declared.actions.Action.{Action}
-use Rattle.dsa_scenario.specs.Lines.{line_of_text, row_text}
+use Rattle.dsa_scenario.specs.{Document.{IsDocument, IsOpenable}, Lines.{line_of_text, row_text}}
 use Rattle.dsa_serve.specs.declared.requests.Request.{Request, TheVariants.{Step}}
-use Rattle.dsa_serve.specs.Requests.{Asks}
+use Rattle.dsa_serve.specs.Requests.{Asks, AreAsked}
 use Rattle.dsa_serve.specs.Answers.{answers, IsSessionTo}
 use Rattle.dsa_serve.specs.Input.{IsLine, with_rest, IsFront}
 use Rattle.dsa_serve.specs.Dialogue.{from_document, IsDialogue, IsDialogueEnded, AnswersWhole, IsServing}
@@ -76,25 +76,32 @@ rest_kept first behind output piece kept seen number now tickets line keeps h = 
   session = h.session;
 }
 
--- what a session has answered
+-- what a session has answered that began with a document
+dialogue_by : (first : List ℕ) (lines : List (List ℕ)) (output : List ℕ) (caps : Caps) (capacity : ℕ)
+    (actions : List Action) (requests : List Request) (number : ℕ) (now : Running) (tickets : List Ticket)
+    → IsDocument first caps capacity actions → IsOpenable caps capacity → AreAsked lines requests
+    → IsSessionTo caps capacity (from_document actions requests) number now tickets output
+    → IsDialogue first lines now.state output
+dialogue_by first lines output caps capacity actions requests number now tickets document opening asked session = record {
+  caps = caps;
+  capacity = capacity;
+  actions = actions;
+  requests = requests;
+  records = session.records;
+  document = document;
+  opening = opening;
+  asked = asked;
+  of_actions = session.of_actions;
+  run = rw session.run.added session.run.allowed;
+  replayed = rw session.run.added (rw session.run.history at session.run.replayed);
+  answered = session.made.answered;
+}
+
 pub dialogue_of : (first behind output : List ℕ) (number : ℕ) (now : Running) (tickets : List Ticket) (kept : List ℕ)
     → (h : IsServing first behind output number now tickets kept) → IsDialogue first h.lines now.state output
 dialogue_of first behind output number now tickets kept h =
-    let s = h.session in
-    record {
-      caps = h.caps;
-      capacity = h.capacity;
-      actions = h.actions;
-      requests = h.requests;
-      records = s.records;
-      document = h.document;
-      opening = h.opening;
-      asked = h.asked;
-      of_actions = s.of_actions;
-      run = rw s.run.added s.run.allowed;
-      replayed = rw s.run.added (rw s.run.history at s.run.replayed);
-      answered = s.made.answered;
-    }
+    dialogue_by first h.lines output h.caps h.capacity h.actions h.requests number now tickets h.document h.opening h.asked
+    h.session
 
 -- the answers to whole lines
 pub whole_answered : (first behind output : List ℕ) (number : ℕ) (now : Running) (tickets : List Ticket) (kept : List ℕ)
@@ -163,20 +170,10 @@ ended_rest first behind written old mid new number now tickets kept seen number'
       last = now'.state;
       answered = written ++ mid;
       lines_are = h.lines_are;
-      dialogue = subst (λ ls. IsDialogue first ls now'.state (written ++ mid)) last (record {
-        caps = h.caps;
-        capacity = h.capacity;
-        actions = h.actions;
-        requests = h.requests ++ it.0 ∷ [];
-        records = session.records;
-        document = h.document;
-        opening = h.opening;
-        asked = AreAsked-more h.lines h.requests h.rest it.0 h.asked asks;
-        of_actions = session.of_actions;
-        run = rw session.run.added session.run.allowed;
-        replayed = rw session.run.added (rw session.run.history at session.run.replayed);
-        answered = session.made.answered;
-      });
+      dialogue = subst (λ ls. IsDialogue first ls now'.state (written ++ mid)) last
+          (dialogue_by first (h.lines ++ h.rest ∷ []) (written ++ mid) h.caps h.capacity h.actions
+          (h.requests ++ it.0 ∷ []) number' now' tickets' h.document h.opening
+          (AreAsked-more h.lines h.requests h.rest it.0 h.asked asks) session);
       with_fates = ap (λ l. written ++ l) adds
           ∙ sym (append_assoc written mid (flat_map (λ row. line_of_text (row_text row)) rows))
           ∙ ap (λ rs. (written ++ mid) ++ flat_map (λ row. line_of_text (row_text row)) rs) is;

@@ -5,3 +5,4 @@ pub mod Courses
 pub mod Stops
 pub mod Counts
 pub mod RowLines
+pub mod RowDialogues

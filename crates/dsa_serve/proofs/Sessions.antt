@@ -90,6 +90,23 @@ pub explained_line : (action : Action) (step : Visit) → answers (Explain actio
     ≡ explanation_of_step step
 explained_line action step = append-nil (explanation_of_step step)
 
+-- the walk of these steps with another page
+with_page : {Page Other : Type 0} (is_page : List Visit → Page → Type 0) (is_other : List Visit → Other → Type 0)
+    (caps : Caps) (capacity : ℕ) (actions : List Action) (number : ℕ) (now : Running) (tickets : List Ticket) (page : Page)
+    (other : Other) → (h : IsWalkTo is_page caps capacity actions number now tickets page)
+    → is_other (visits caps capacity [] h.records) other
+    → IsWalkTo is_other caps capacity actions number now tickets other
+with_page is_page is_other caps capacity actions number now tickets page other h made = record {
+  records = h.records;
+  of_actions = h.of_actions;
+  count = h.count;
+  run = h.run;
+  replay = h.replay;
+  table = h.table;
+  in_turn = h.in_turn;
+  made = made;
+}
+
 -- a session with one request more that is none
 pub missed : (caps : Caps) (capacity : ℕ) (requests : List Request) (fault : LineFault) (number : ℕ) (now : Running)
     (tickets : List Ticket) (written old text : List ℕ) → text ≡ old ++ line_of_text (line_fault_text fault)
@@ -102,19 +119,10 @@ missed caps capacity requests fault number now tickets written old text adds h =
     let same : actions_of requests ≡ actions_of (requests ++ Fault fault ∷ []) =
     sym (actions-more requests (Fault fault ∷ []) ∙ append-nil (actions_of requests)) in
     subst (λ actions. IsWalkTo IsPage caps capacity actions number now tickets
-    (requests ++ Fault fault ∷ [], written ++ text)) same (record {
-      records = h.records;
-      of_actions = h.of_actions;
-      count = h.count;
-      run = h.run;
-      replay = h.replay;
-      table = h.table;
-      in_turn = h.in_turn;
-      made = record {
-        count = ap length (sym same) ∙ h.made.count;
-        answered = rw longer (faulty h.made);
-      };
-    })
+    (requests ++ Fault fault ∷ [], written ++ text)) same
+    (with_page IsPage IsPage caps capacity (actions_of requests) number now tickets (requests, written ++ old)
+    (requests ++ Fault fault ∷ [], written ++ text) h
+    (record { count = ap length (sym same) ∙ h.made.count; answered = rw longer (faulty h.made) }))
   where
     faulty : {steps : List Visit} → AreRequestsAnswered requests steps (written ++ old)
         → (written ++ old) ++ line_of_text (line_fault_text fault) ≡ answers (requests ++ Fault fault ∷ []) steps
@@ -153,16 +161,9 @@ opened_session bytes_of caps capacity actions number now new tickets more page l
     sym (records_count [] actions h.records h.of_actions) ∙ sym (visits_count caps capacity [] h.records) in
     rw (append-nil (map Step actions))
     (subst (λ asked. IsWalkTo IsPage caps capacity asked number new more (map Step actions, bytes_of longer))
-    (sym (actions_of_steps actions)) (record {
-      records = h.records;
-      of_actions = h.of_actions;
-      count = h.count;
-      run = h.run;
-      replay = h.replay;
-      table = h.table;
-      in_turn = h.in_turn;
-      made = record {
-        count = ap length (actions_of_steps actions) ∙ count;
-        answered = h.made ∙ sym (answers_to_steps actions steps count);
-      };
-    }))
+    (sym (actions_of_steps actions))
+    (with_page (λ steps page. bytes_of page ≡ flat_map line_of_step steps) IsPage caps capacity actions number new more
+    longer (map Step actions, bytes_of longer) h (record {
+      count = ap length (actions_of_steps actions) ∙ count;
+      answered = h.made ∙ sym (answers_to_steps actions steps count);
+    })))

@@ -218,7 +218,23 @@ behind_few room true input first behind front few =
     let none : length behind ≡ 0 = ap (λ (l : List ℕ). length l) front.1 in
     omega (arith, none)
 
--- a first line that is no document, or want of memory before one is
+-- a first line that is no document
+module _ (room : ℕ) (had left held : Option (List ℕ)) (input first behind : List ℕ) (ended : Bool)
+    (reads : Consumes had left input) (split : HasFirst ended input first behind)
+    (at_end : ended ≡ true → IsAtEnd left) (less : length behind ≤ room) where
+  fault_stops : (e : ScenarioFault) → IsFaultOf first e → IsStoppedWithin room e had left held held
+  fault_stops Read h = absurd h
+  fault_stops TooLong h = absurd h
+  fault_stops Write h = absurd h
+  fault_stops (Differs i) h = absurd h
+  fault_stops OutOfMemory h = absurd h
+  fault_stops NotJson h = (input, first, behind, ended, reads, split, at_end, less, h, Appends-nil held)
+  fault_stops BadDocument h = (input, first, behind, ended, reads, split, at_end, less, h, Appends-nil held)
+  fault_stops (BadStep i) h = (input, first, behind, ended, reads, split, at_end, less, h, Appends-nil held)
+  fault_stops BadCaps h = (input, first, behind, ended, reads, split, at_end, less, h, Appends-nil held)
+  fault_stops BadCapacity h = (input, first, behind, ended, reads, split, at_end, less, h, Appends-nil held)
+
+-- the same, or want of memory before the first line is judged
 pub opening_stops : (room : ℕ) (had left held : Option (List ℕ)) (input first behind : List ℕ) (ended : Bool)
     (e : ScenarioFault)
     → Consumes had left input → IsLine first → length first ≤ 2 ^ 20 → IsFront ended input first behind
@@ -231,31 +247,9 @@ opening_stops room had left held input first behind false e reads line short fro
 opening_stops room had left held input first behind true e reads line short front few at_end (inl h) =
     let all = rw (front.0, ← append-nil first) at reads in
     rw h (memory_before room had left held first [] all line short (omega arith))
-opening_stops room had left held input first behind ended Read reads line short front few at_end (inr h) = absurd h
-opening_stops room had left held input first behind ended TooLong reads line short front few at_end (inr h) = absurd h
-opening_stops room had left held input first behind ended Write reads line short front few at_end (inr h) = absurd h
-opening_stops room had left held input first behind ended (Differs i) reads line short front few at_end (inr h) = absurd h
-opening_stops room had left held input first behind ended OutOfMemory reads line short front few at_end (inr h) = absurd h
-opening_stops room had left held input first behind ended NotJson reads line short front few at_end (inr h) =
-    let split : HasFirst ended input first behind = record { line = line; short = short; front = front } in
-    let less = behind_few room ended input first behind front few in
-    (input, first, behind, ended, reads, split, at_end, less, h, Appends-nil held)
-opening_stops room had left held input first behind ended BadDocument reads line short front few at_end (inr h) =
-    let split : HasFirst ended input first behind = record { line = line; short = short; front = front } in
-    let less = behind_few room ended input first behind front few in
-    (input, first, behind, ended, reads, split, at_end, less, h, Appends-nil held)
-opening_stops room had left held input first behind ended (BadStep i) reads line short front few at_end (inr h) =
-    let split : HasFirst ended input first behind = record { line = line; short = short; front = front } in
-    let less = behind_few room ended input first behind front few in
-    (input, first, behind, ended, reads, split, at_end, less, h, Appends-nil held)
-opening_stops room had left held input first behind ended BadCaps reads line short front few at_end (inr h) =
-    let split : HasFirst ended input first behind = record { line = line; short = short; front = front } in
-    let less = behind_few room ended input first behind front few in
-    (input, first, behind, ended, reads, split, at_end, less, h, Appends-nil held)
-opening_stops room had left held input first behind ended BadCapacity reads line short front few at_end (inr h) =
-    let split : HasFirst ended input first behind = record { line = line; short = short; front = front } in
-    let less = behind_few room ended input first behind front few in
-    (input, first, behind, ended, reads, split, at_end, less, h, Appends-nil held)
+opening_stops room had left held input first behind ended e reads line short front few at_end (inr h) =
+    fault_stops room had left held input first behind ended reads (record { line = line; short = short; front = front })
+    at_end (behind_few room ended input first behind front few) e h
 
 -- an error of the reader, or want of memory, where the first line is not whole
 pub first_read_stops : (room : ℕ) (had left left' held : Option (List ℕ)) (first : List ℕ) (e : ScenarioFault)

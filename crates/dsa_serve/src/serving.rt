@@ -1,9 +1,9 @@
 //! Lines in, answers out.
 
-ghost use Rattle.std.specs.Prelude.{◌≡◌, ◌≢◌, ◌<◌, ◌≤◌, ◌+◌, ◌^◌, true, false, ℕ, Bool, List, Option, Ok, length, OnOk, IfOk, IfErr};
+ghost use Rattle.std.specs.Prelude.{◌≡◌, ◌≢◌, ◌⊎◌, ◌<◌, ◌≤◌, ◌+◌, ◌^◌, true, false, ℕ, Bool, List, Option, Ok, length, OnOk, IfOk, IfErr};
 ghost use Rattle.std.specs.Io.KnownBytes.{Consumes, IsAtEnd, Appends};
 ghost use Rattle.dsa_scenario.specs.declared.faults.ScenarioFault.{ScenarioFault};
-ghost use Rattle.dsa_scenario.specs.Counted.{counted_remaining, asked_of, IsAskedFor, IsReadFor};
+ghost use Rattle.dsa_scenario.specs.Counted.{counted_remaining, asked_of, given_of, IsAskedFor, IsReadFor};
 ghost use Rattle.dsa_scenario.specs.Watched.{watched_contents, IsWrittenFor};
 ghost use Rattle.dsa_serve.specs.Dialogue.{AnswersAll, IsInCourse, IsLate, IsStoppedWithin, IsStopped};
 
@@ -75,6 +75,12 @@ fn turn<S: EntryStore, R: Read, W: Write>(
     ensures writer { IsWrittenFor result writer.old writer.new }
     ensures one_read { asked_of reader.new ≤ asked_of reader.old + 1 }
     ensures counted { OnOk result (asked_of reader.new ≡ asked_of reader.old + 1) }
+    ensures tried { IfErr result
+        (λ e. (asked_of reader.new ≡ asked_of reader.old + 1)
+        ⊎ ((e ≡ ScenarioFault.OutOfMemory)
+        × (reader.new ≡ reader.old)
+        × ((2 ^ 64 ≤ asked_of reader.old + 1)
+        ⊎ (2 ^ 64 ≤ given_of reader.old + length chunk.old)))) }
     ensures fits { asked_of reader.new < 2 ^ 64 }
     ensures asked_for_more { result ≡ Ok true → IsAskedFor R.remaining reader.old reader.new 0 }
     ensures ok { OnOk result

@@ -2,8 +2,9 @@
 
 use crate::shared::playing::Play;
 use crate::shared::steps::{
-    accepted, begun, cleared, dispatched, done, ended, fetched, finished, issued, limited, member,
-    polled, row, sent, started, taken, ticket, totals, unlimited, writes, written_to,
+    accepted, begun, cleared, dispatched, done, ended, fetched, finished, group_written, issued,
+    limited, member, polled, queue_written, row, sent, started, taken, ticket, totals, unlimited,
+    writes, written_to,
 };
 use crate::shared::stores::{Trial, over_both_stores};
 use dsa_book::{
@@ -12,7 +13,8 @@ use dsa_book::{
 };
 use dsa_desc::Outcome;
 use dsa_fixtures::{
-    DRAIN, ENQCMD, FENCED_MOVE, FENCED_NO_OP, FIRST_QUEUE, LARGE_MOVE, MOVE, NO_OP, batch_of,
+    DRAIN, ENQCMD, FENCED_MOVE, FENCED_NO_OP, FIRST_GROUP, FIRST_QUEUE, LARGE_MOVE, MOVE, NO_OP,
+    SHARED_QUEUE, batch_of,
 };
 use dsa_regs::{Command, Fault};
 use dsa_shared::Totals;
@@ -339,4 +341,40 @@ fn full_history(rt: HostRuntime) {
     ];
     let totals = totals(3, 0, 0, 0, 0, 3, 10);
     play_within(&rt, rt.alloc(), 10, &steps, &[], totals);
+}
+
+// One call of each kind, and four of these steps are stored.
+fn each_call() -> [Step; 12] {
+    let locked = WriteAnswer::Refused(Fault::Locked);
+    [
+        limited(MOVE, accepted(0)),
+        taken(0, 0),
+        done(0, 0x01),
+        dispatched(0, DispatchAnswer::Idle),
+        fetched(0, NO_OP, FetchAnswer::NoBatch),
+        started(0, StartAnswer::Nothing),
+        finished(0, ticket(0), Outcome::Success, FinishAnswer::Gone),
+        ended(Command::AbortAll, 0),
+        polled(PollAnswer::Nothing),
+        queue_written(0, SHARED_QUEUE, locked),
+        group_written(0, FIRST_GROUP, locked),
+        cleared(ClearAnswer::Nothing),
+    ]
+}
+
+// The second client is turned away more often than 16 bits count, and then each call is made.
+fn many_steps(rt: &impl Abort, alloc: Global) -> Vec<Step> {
+    let turned_away = written_to(9, ENQCMD, NO_OP, SubmitAnswer::Retry(Cause::NotEnabled));
+    let mut steps = Vec::from_elem(alloc, turned_away, 70_000).expect(rt, "memory for steps");
+    let added = steps.extend_from_slice(&each_call());
+    added.expect(rt, "memory for steps");
+    steps
+}
+
+#[test]
+fn long_history(rt: HostRuntime) {
+    let steps = many_steps(&rt, rt.alloc());
+    let fates = [row(0, None, COMPLETED)];
+    let totals = totals(1, 0, 0, 1, 0, 0, 70_011);
+    play_within(&rt, rt.alloc(), 70_020, &steps, &fates, totals);
 }

@@ -1,3 +1,4 @@
+use Rattle.dsa_check.proofs.reasons.digits_reason.Goals.{In-None}
 use Rattle.dsa_check.proofs.reasons.digits_reason.Goals as goal
 use Rattle.std.proofs.Common.{rules, ◌≡◌, ◌<◌, ◌≤◌, ◌≢◌, ◌==◌, ℕ, suc, true, false, Some, None, refl, not, nat_lt, length, arith}
 use Rattle.std.proofs.lemmas.Bool.{Decides.{nat_tests}}
@@ -27,23 +28,19 @@ returns-in-Some c =
     omega (arith, c.in-Some.ensures.bound, c.bytes.ensures.len) in
     rw (← place, next) refl
 
+-- no character is the first that is no digit
+all_digits : (c : In-None) → None ≡ first_no_digit c.args.text.now
+all_digits c = position_from_yields_List (λ byte. not (is_ascii_hexdigit byte)) _ _ None c.in-None.ensures.ran
+    (YieldsList-from_bytes c.args.text.now cc) (λ x b q k. search (rules, tests))
+
 pub returns-in-None : goal.returns-in-None
 returns-in-None c =
-    let all : None ≡ first_no_digit c.args.text.now =
-    position_from_yields_List (λ byte. not (is_ascii_hexdigit byte)) _ _ None c.in-None.ensures.ran
-    (YieldsList-from_bytes c.args.text.now cc) (λ x b q k. search (rules, tests)) in
-    rw (← all, beyond 128 _ c.if-count-gt-MOST_DIGITS.true) refl
+    rw (← all_digits (goal.at.returns-in-None c).In-None, beyond 128 _ c.if-count-gt-MOST_DIGITS.true) refl
 
 pub returns-in-None-2 : goal.returns-in-None-2
 returns-in-None-2 c =
-    let all : None ≡ first_no_digit c.args.text.now =
-    position_from_yields_List (λ byte. not (is_ascii_hexdigit byte)) _ _ None c.in-None.ensures.ran
-    (YieldsList-from_bytes c.args.text.now cc) (λ x b q k. search (rules, tests)) in
-    rw (← all, within 128 (length c.args.text.now) (omega (arith, c.if-count-gt-MOST_DIGITS.false)), odd _ c.if-count-eq1.true) refl
+    rw (← all_digits (goal.at.returns-in-None-2 c).In-None, within 128 (length c.args.text.now) (omega (arith, c.if-count-gt-MOST_DIGITS.false)), odd _ c.if-count-eq1.true) refl
 
 pub returns-in-None-3 : goal.returns-in-None-3
 returns-in-None-3 c =
-    let all : None ≡ first_no_digit c.args.text.now =
-    position_from_yields_List (λ byte. not (is_ascii_hexdigit byte)) _ _ None c.in-None.ensures.ran
-    (YieldsList-from_bytes c.args.text.now cc) (λ x b q k. search (rules, tests)) in
-    rw (← all, within 128 (length c.args.text.now) (omega (arith, c.if-count-gt-MOST_DIGITS.false)), even _ c.if-count-eq1.false) refl
+    rw (← all_digits (goal.at.returns-in-None-3 c).In-None, within 128 (length c.args.text.now) (omega (arith, c.if-count-gt-MOST_DIGITS.false)), even _ c.if-count-eq1.false) refl

@@ -5,37 +5,23 @@ use Rattle.serde_json.specs.Data.{null}
 use Rattle.dsa_check.specs.declared.finding.Finding.{Finding}
 use Rattle.dsa_check.specs.Findings.{TellsStep}
 
-pub returns-clause-of_the_item : goal.returns-clause-of_the_item
-returns-clause-of_the_item c finding fault kind nowhere told =
-    (fault, record { kind = kind; reasons = told; line = rw nowhere.no_line tt; column = nowhere.no_column })
-
-pub returns-clause-of_another : goal.returns-clause-of_another
-returns-clause-of_another c finding fault is =
-    let other = is.0 in
-    absurd cc
-
-pub returns-clause-of_a_kind : goal.returns-clause-of_a_kind
-returns-clause-of_a_kind c finding kind is =
-    let none = is.1.kind in
-    absurd cc
-
-pub returns-clause-of_one : goal.returns-clause-of_one
-returns-clause-of_one c finding fault kind nowhere told =
-    (0, fault, record { kind = kind; reasons = told; line = rw nowhere.no_line tt; column = nowhere.no_column })
-
 -- the one item is the first, and of no kind
 first : (i : ℕ) (finding : Finding) → IsSomeAnd (slice_get (null ∷ []) i) (TellsStep [] finding)
     → (i ≡ 0) × (finding.place.kind ≡ None)
 first zero finding tells = (refl, tells.kind)
 first (suc i) finding tells = absurd tells
 
-pub returns-clause-of_none : goal.returns-clause-of_none
-returns-clause-of_none c finding fault is =
-    let zeroth = (first is.0 finding is.2).0 in
-    let other = is.1 in
-    absurd cc
-
-pub returns-clause-of_one_of_a_kind : goal.returns-clause-of_one_of_a_kind
-returns-clause-of_one_of_a_kind c finding kind is =
-    let none = (first is.0 finding is.2).1 in
-    absurd cc
+pub returns : goal.returns
+returns c = record {
+  of_the_item = λ finding fault kind nowhere told.
+      (fault, record { kind = kind; reasons = told; line = rw nowhere.no_line tt; column = nowhere.no_column });
+  of_another = λ finding fault is. let other = is.0 in absurd cc;
+  of_a_kind = λ finding kind is. let none = is.1.kind in absurd cc;
+  of_one = λ finding fault kind nowhere told.
+      (0, fault, record { kind = kind; reasons = told; line = rw nowhere.no_line tt; column = nowhere.no_column });
+  of_none = λ finding fault is.
+      let zeroth = (first is.0 finding is.2).0 in
+      let other = is.1 in
+      absurd cc;
+  of_one_of_a_kind = λ finding kind is. let none = (first is.0 finding is.2).1 in absurd cc;
+}

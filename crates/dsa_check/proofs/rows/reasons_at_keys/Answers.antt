@@ -1,6 +1,7 @@
 use Rattle.dsa_check.proofs.rows.reasons_at_keys.Goals as goal
-use Rattle.std.proofs.Common.{◌≡◌, ℕ, true, false, ap, refl}
+use Rattle.std.proofs.Common.{◌≡◌, ℕ, ap, arith, refl}
 use Rattle.std.specs.Prelude.{Option, None, Some}
+use Rattle.std.proofs.lemmas.Bool.{false≢true}
 use Rattle.dsa_check.specs.declared.fields.Key.{Key}
 use Rattle.dsa_check.specs.declared.finding.Reason.{Reason, TheVariants.{ManyDigits, OddDigits, NoDigit, Unfit}}
 use Rattle.dsa_check.specs.Worked.{key_of_caps, key_of_a_step}
@@ -19,38 +20,20 @@ count_in other = 0
 
 -- the two keys are of other objects
 apart : key_of_a_step ≡ key_of_caps → ⊥
-apart is =
-    let other : false ≡ true = ap (λ (key : Key). key.in_caps) is in
-    absurd cc
+apart is = false≢true (ap (λ (key : Key). key.in_caps) is)
 
 told_apart : Some key_of_a_step ≡ Some key_of_caps → ⊥
 told_apart is = apart cc
 
-pub returns-clause-many : goal.returns-clause-many
-returns-clause-many c key = refl
-
-pub returns-clause-most : goal.returns-clause-most
-returns-clause-most c key is = absurd cc
-
-pub returns-clause-more : goal.returns-clause-more
-returns-clause-more c key is =
-    let other : 129 ≡ 130 = ap count_in is in
-    absurd cc
-
-pub returns-clause-many_at_another : goal.returns-clause-many_at_another
-returns-clause-many_at_another c is = told_apart (ap key_in is)
-
-pub returns-clause-odd_at_another : goal.returns-clause-odd_at_another
-returns-clause-odd_at_another c is = told_apart (ap key_in is)
-
-pub returns-clause-letter_at_another : goal.returns-clause-letter_at_another
-returns-clause-letter_at_another c is = told_apart (ap key_in is)
-
-pub returns-clause-value_at_another : goal.returns-clause-value_at_another
-returns-clause-value_at_another c is = told_apart (ap key_in is)
-
-pub returns-clause-misspelled : goal.returns-clause-misspelled
-returns-clause-misspelled c key text = refl
-
-pub returns-clause-misspelled_at_another : goal.returns-clause-misspelled_at_another
-returns-clause-misspelled_at_another c text is = apart is
+pub returns : goal.returns
+returns c = record {
+  many = λ key. refl;
+  most = λ key is. absurd cc;
+  more = λ key is. omega (arith, ap count_in is);
+  many_at_another = λ is. told_apart (ap key_in is);
+  odd_at_another = λ is. told_apart (ap key_in is);
+  letter_at_another = λ is. told_apart (ap key_in is);
+  value_at_another = λ is. told_apart (ap key_in is);
+  misspelled = λ key text. refl;
+  misspelled_at_another = λ text is. apart is;
+}

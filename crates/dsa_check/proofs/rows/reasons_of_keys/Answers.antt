@@ -17,48 +17,34 @@ one_inside [] each = absurd each
 one_inside (r ∷ []) each = refl
 one_inside (r ∷ s ∷ inside) each = absurd each.1
 
-pub returns-clause-document : goal.returns-clause-document
-returns-clause-document c steps slots of_steps no_caps of_slots in_caps = record {
-  own = Missing steps ∷ [];
-  inside = Missing slots ∷ [];
-  both = refl;
-  of_document = (record { key = steps; named = of_steps; holder = no_caps; so = refl; stray = tt; near = refl }, tt);
-  of_caps = (record { key = slots; named = of_slots; holder = in_caps; so = refl; stray = tt; near = refl }, tt);
+pub returns : goal.returns
+returns c = record {
+  document = λ steps slots of_steps no_caps of_slots in_caps. record {
+    own = Missing steps ∷ [];
+    inside = Missing slots ∷ [];
+    both = refl;
+    of_document = (record { key = steps; named = of_steps; holder = no_caps; so = refl; stray = tt; near = refl }, tt);
+    of_caps = (record { key = slots; named = of_slots; holder = in_caps; so = refl; stray = tt; near = refl }, tt);
+  };
+  alone = λ reason are. omega (
+    arith,
+    ap length are.both,
+    length-append are.own are.inside,
+    one_own are.own are.of_document,
+    one_inside are.inside are.of_caps,
+  );
+  step = λ key name holder.
+      (record { key = key; named = name; holder = holder; so = refl; stray = tt; near = refl }, tt);
+  step_in_caps = λ key holder are.
+      let same = are.0.so in
+      let own = are.0.holder in
+      absurd cc;
+  other_key = λ key name are.
+      let same = are.0.so in
+      let own = are.0.named in
+      absurd cc;
+  other_reason = λ are. are.0.so;
+  no_kind = λ key name holder.
+      (refl, record { key = key; named = name; holder = holder; so = refl; stray = tt; near = refl });
+  misspelled_kind = λ key text are. let inside = are.1.stray.inside in absurd cc;
 }
-
-pub returns-clause-alone : goal.returns-clause-alone
-returns-clause-alone c reason are = absurd (omega (
-  arith,
-  ap length are.both,
-  length-append are.own are.inside,
-  one_own are.own are.of_document,
-  one_inside are.inside are.of_caps,
-))
-
-pub returns-clause-step : goal.returns-clause-step
-returns-clause-step c key name holder =
-    (record { key = key; named = name; holder = holder; so = refl; stray = tt; near = refl }, tt)
-
-pub returns-clause-step_in_caps : goal.returns-clause-step_in_caps
-returns-clause-step_in_caps c key holder are =
-    let same = are.0.so in
-    let own = are.0.holder in
-    absurd cc
-
-pub returns-clause-other_key : goal.returns-clause-other_key
-returns-clause-other_key c key name are =
-    let same = are.0.so in
-    let own = are.0.named in
-    absurd cc
-
-pub returns-clause-other_reason : goal.returns-clause-other_reason
-returns-clause-other_reason c are = are.0.so
-
-pub returns-clause-no_kind : goal.returns-clause-no_kind
-returns-clause-no_kind c key name holder =
-    (refl, record { key = key; named = name; holder = holder; so = refl; stray = tt; near = refl })
-
-pub returns-clause-misspelled_kind : goal.returns-clause-misspelled_kind
-returns-clause-misspelled_kind c key text are =
-    let inside = are.1.stray.inside in
-    absurd cc

@@ -9,23 +9,13 @@ returns-clause-conforms c = record {
   shown = (refl, (refl, (refl, (refl, (refl, (refl, (refl, (refl, (refl, tt)))))))));
 }
 
-pub returns-clause-not_shown : goal.returns-clause-not_shown
+pub returns-clause-others : goal.returns-clause-others
 unfolding digits
-returns-clause-not_shown c is =
-    let shown = is.shown.0 in
-    absurd cc
-
-pub returns-clause-not_asked : goal.returns-clause-not_asked
-unfolding digits
-returns-clause-not_asked c is =
-    let asked = is.of_actions.0 in
-    absurd cc
-
-pub returns-clause-not_allowed : goal.returns-clause-not_allowed
-unfolding digits
-returns-clause-not_allowed c is =
-    let run = is.run in
-    absurd cc
+returns-clause-others c = (
+  λ is. let shown = is.shown.0 in absurd cc,
+  λ is. let asked = is.of_actions.0 in absurd cc,
+  λ is. let run = is.run in absurd cc,
+)
 
 pub returns-clause-second_not_shown : goal.returns-clause-second_not_shown
 unfolding digits

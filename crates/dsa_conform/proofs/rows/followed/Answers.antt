@@ -13,23 +13,13 @@ pub returns-clause-refused : goal.returns-clause-refused
 unfolding digits
 returns-clause-refused c = (refl, refl, refl)
 
-pub returns-clause-not_seen : goal.returns-clause-not_seen
+pub returns-clause-others : goal.returns-clause-others
 unfolding digits
-returns-clause-not_seen c is =
-    let shown = is.2 in
-    absurd cc
-
-pub returns-clause-not_asked : goal.returns-clause-not_asked
-unfolding digits
-returns-clause-not_asked c is =
-    let asked = is.0 in
-    absurd cc
-
-pub returns-clause-not_allowed : goal.returns-clause-not_allowed
-unfolding digits
-returns-clause-not_allowed c is =
-    let none = is.1 in
-    absurd cc
+returns-clause-others c = (
+  λ is. let shown = is.2 in absurd cc,
+  λ is. let asked = is.0 in absurd cc,
+  λ is. let none = is.1 in absurd cc,
+)
 
 pub returns-clause-another_state : goal.returns-clause-another_state
 unfolding digits

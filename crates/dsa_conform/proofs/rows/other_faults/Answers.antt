@@ -8,7 +8,8 @@ use Rattle.dsa_book.specs.declared.event.Event.TheVariants.{Poll}
 use Rattle.dsa_scenario.specs.declared.actions.Action.{Action, TheVariants.{Ask}}
 use Rattle.dsa_scenario.specs.Document.{IsJson, HasHead, head_of, list_of_items}
 use Rattle.dsa_scenario.specs.Worked.{no_caps_text, document_text}
-use Rattle.dsa_conform.specs.{Seen.{Seen, observation_of}, Run.{IsUnreadAt}, Worked.{flagged, document_of, poll_with}}
+use Rattle.dsa_conform.specs.{Seen.{Seen, observation_of}, Run.{IsUnread, IsUnreadAt}}
+use Rattle.dsa_conform.specs.Worked.{flagged, document_of, poll_with}
 
 -- a text of ASCII is JSON by what it reads as
 is_json : (text : List ℕ) (d : Data) → all_scalars text ≡ true → encode_utf8_all text ≡ text → read text ≡ Some d
@@ -30,6 +31,18 @@ same_steps text d caps capacity items other room steps value e has =
     let same : d ≡ has.document = cc in
     let keys = sym e ∙ ap head_of same ∙ has.head in
     ap (λ o. option_map_or (λ (keys : Caps × ℕ × Items). list_of_items keys.2) o []) keys ∙ has.listed
+
+-- a document whose first object is not read, by what its text reads as
+first_unread : (text : List ℕ) (d : Data) (caps : Caps) (capacity : ℕ) (items : Items) → all_scalars text ≡ true
+    → encode_utf8_all text ≡ text → read text ≡ Some d → head_of d ≡ Some (caps, capacity, items)
+    → IsUnreadAt (list_of_items items) 0 → IsUnread text 0
+first_unread text d caps capacity items characters bytes value head bad = record {
+  caps = caps;
+  capacity = capacity;
+  steps = list_of_items items;
+  head = has_head text d caps capacity items (is_json text d characters bytes value) head;
+  bad = bad;
+}
 
 -- an object that is read is none that is not
 one_is_read : (d : Data) (o : Action × Seen) → observation_of d ≡ Some o → (i : ℕ) → ¬ IsUnreadAt (d ∷ []) i
@@ -66,38 +79,20 @@ returns-clause-caps c =
 
 pub returns-clause-unread_before_caps : goal.returns-clause-unread_before_caps
 unfolding serde_json_on_literals
-returns-clause-unread_before_caps c is =
-    let text = document_text no_caps_text (codes "9") (poll_with (codes "\"zf\":1")) in
-    is.1 0 (record {
-      caps = _;
-      capacity = _;
-      steps = _;
-      head = has_head text _ _ _ _ (is_json text _ refl refl refl) refl;
-      bad = record { done = []; before = refl; here = refl };
-    })
+returns-clause-unread_before_caps c is = is.1 0 (first_unread
+    (document_text no_caps_text (codes "9") (poll_with (codes "\"zf\":1"))) _ _ _ _ refl refl refl refl
+    (record { done = []; before = refl; here = refl }))
 
 pub returns-clause-no_step : goal.returns-clause-no_step
 unfolding serde_json_on_literals
-returns-clause-no_step c is =
-    is.1 0 (record {
-      caps = _;
-      capacity = _;
-      steps = _;
-      head = has_head (document_of (codes "1")) _ _ _ _ (is_json (document_of (codes "1")) _ refl refl refl) refl;
-      bad = record { done = []; before = refl; here = refl };
-    })
+returns-clause-no_step c is = is.1 0 (first_unread (document_of (codes "1")) _ _ _ _ refl refl refl refl
+    (record { done = []; before = refl; here = refl }))
 
 pub returns-clause-no_step_behind : goal.returns-clause-no_step_behind
 unfolding serde_json_on_literals
-returns-clause-no_step_behind c is =
-    let text = document_of (poll_with (codes "\"zf\":1") ++ codes ",1") in
-    is.1 0 (record {
-      caps = _;
-      capacity = _;
-      steps = _;
-      head = has_head text _ _ _ _ (is_json text _ refl refl refl) refl;
-      bad = record { done = []; before = refl; here = refl };
-    })
+returns-clause-no_step_behind c is = is.1 0 (first_unread
+    (document_of (poll_with (codes "\"zf\":1") ++ codes ",1")) _ _ _ _ refl refl refl refl
+    (record { done = []; before = refl; here = refl }))
 
 pub returns-clause-no_such_fault : goal.returns-clause-no_such_fault
 unfolding serde_json_on_literals

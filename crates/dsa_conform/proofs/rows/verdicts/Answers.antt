@@ -14,10 +14,10 @@ use Rattle.dsa_device.{specs.Running.{Running, running_at_first, after_answer}, 
 use Rattle.dsa_scenario.specs.declared.{actions.Action.{Action, TheVariants.{Ask, Refuse}}, run.Record.{Record}}
 use Rattle.dsa_scenario.specs.declared.run.Record.TheVariants.{Stepped, Refused}
 use Rattle.dsa_scenario.specs.{Run.{answered_by, Leads}, Steps.{standing}}
-use Rattle.dsa_scenario.specs.Worked.{smallest_caps, stepped, group_of_a_run}
+use Rattle.dsa_scenario.specs.Worked.{smallest_caps, stepped, group_of_a_run, object_of, poll_step}
 use Rattle.dsa_conform.specs.Allowed.{IsAllowed}
 use Rattle.dsa_conform.specs.Lines.{conforms_text, seen_count, difference_text}
-use Rattle.dsa_conform.specs.Run.{IsShownRun, IsDifference}
+use Rattle.dsa_conform.specs.Run.{IsShownRun, IsDifference, IsConforming}
 use Rattle.dsa_conform.specs.{Seen.{Seen, shows}, Worked.{answered, nothing_seen, smallest_device_at_first}}
 use Rattle.dsa_conform.proofs.{SeenAlike.{only_entry}, Objects.{not_first, not_second, one_read}}
 use Rattle.dsa_conform.proofs.RowRuns.{LeadTo, differs, smallest_replay, word_leads, nothing, is_nothing, only_nothing}
@@ -140,21 +140,23 @@ returns-clause-not_shown c is =
     let run = subst (λ observed. IsShownRun smallest_caps 9 observed is.records) read is.run in
     not_answered_so is.records run.of_actions run.shown
 
+-- one step of which nothing was seen is not counted otherwise
+counted_so : (text : List ℕ) → bytes_eq text (conforms_text 1 0) ≡ false
+    → ¬ IsConforming smallest_caps 9 (object_of poll_step ∷ []) text
+unfolding digits
+counted_so text other is =
+    let read = one_read (Ask event.Poll, nothing_seen) is.observed is.read in
+    let told = subst (λ o. text ≡ conforms_text (length o) (seen_count o)) read is.told in
+    let never : false ≡ true = sym other ∙ ap (λ t. bytes_eq t (conforms_text 1 0)) told in
+    absurd cc
+
 pub returns-clause-not_counted : goal.returns-clause-not_counted
 unfolding digits
-returns-clause-not_counted c is =
-    let read = one_read (Ask event.Poll, nothing_seen) is.observed is.read in
-    let told = subst (λ o. conforms_text 0 0 ≡ conforms_text (length o) (seen_count o)) read is.told in
-    let none : true ≡ false = ap (bytes_eq (conforms_text 0 0)) told in
-    absurd cc
+returns-clause-not_counted c = counted_so (conforms_text 0 0) refl
 
 pub returns-clause-counted_as_seen : goal.returns-clause-counted_as_seen
 unfolding digits
-returns-clause-counted_as_seen c is =
-    let read = one_read (Ask event.Poll, nothing_seen) is.observed is.read in
-    let told = subst (λ o. conforms_text 1 1 ≡ conforms_text (length o) (seen_count o)) read is.told in
-    let none : true ≡ false = ap (bytes_eq (conforms_text 1 1)) told in
-    absurd cc
+returns-clause-counted_as_seen c = counted_so (conforms_text 1 1) refl
 
 pub returns-clause-counted : goal.returns-clause-counted
 unfolding digits

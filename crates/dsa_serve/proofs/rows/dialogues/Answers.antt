@@ -4,104 +4,35 @@ use Rattle.dsa_book.specs.declared.event.Event.TheVariants as event
 use Rattle.std.proofs.Common.{◌++◌, ℕ, ◌≢◌, true, false, List, [], ◌∷◌, codes, refl, lit≤, lit<, arith, sym, append-nil, inl, inr}
 use Rattle.std.specs.Fmt.{digits}
 use Rattle.std.proofs.lemmas.List.Elements.{All-nil, All-cons}
-use Rattle.serde_json.proofs.OnLiterals.{serde_json_on_literals}
 use Rattle.dsa_book.specs.declared.answer.PollAnswer.TheVariants.{Nothing}
-use Rattle.dsa_scenario.specs.declared.actions.Action.TheVariants.{Ask}
+use Rattle.dsa_scenario.specs.declared.{actions.Action.TheVariants.{Ask}, run.Record.{Record}}
 use Rattle.dsa_book.specs.State.{opening}
-use Rattle.dsa_scenario.specs.{Document.{IsDocument}, Lines.{line_of_text}, Worked.{smallest_caps, stepped}}
+use Rattle.dsa_scenario.specs.{Lines.{line_of_text}, Worked.{smallest_caps, stepped}}
 use Rattle.dsa_scenario.specs.Worked.{caps_of_a_run, actions_of_a_run, records_of_a_run}
 use Rattle.dsa_serve.specs.declared.requests.LineFault.TheVariants.{NotJson}
 use Rattle.dsa_serve.specs.declared.requests.Request.TheVariants.{Explain, Fault}
 use Rattle.dsa_serve.specs.{Input.{IsLine, AreLines, HasFirst}, Dialogue.{IsDialogue, AnswersWhole, AnswersAll}}
 use Rattle.dsa_serve.specs.Worked.{poll_line, explained_poll_line, first_line}
 use Rattle.dsa_serve.proofs.RowLines.{line_by_test}
-
--- a first line without steps is a document
-bare_document : IsDocument (first_line []) smallest_caps 9 []
-unfolding serde_json_on_literals
-bare_document = record {
-  steps = [];
-  head = record {
-    document = _;
-    items = _;
-    json = record { utf8 = (first_line [], (refl, refl)); value = refl };
-    head = refl;
-    listed = refl;
-  };
-  asked = refl;
-}
-
--- and so is one with a step
-poll_document : IsDocument (first_line poll_line) smallest_caps 9 (Ask event.Poll ∷ [])
-unfolding serde_json_on_literals
-poll_document = record {
-  steps = _;
-  head = record {
-    document = _;
-    items = _;
-    json = record { utf8 = (first_line poll_line, (refl, refl)); value = refl };
-    head = refl;
-    listed = refl;
-  };
-  asked = refl;
-}
+use Rattle.dsa_serve.proofs.RowDialogues.{bare_document, poll_document, bare_line, open_brace, nothing_behind}
+use Rattle.dsa_serve.proofs.RowDialogues.{asks_no_json, asks_explained_poll, dialogue_by, bare_dialogue}
 
 pub returns-clause-no_lines : goal.returns-clause-no_lines
-unfolding serde_json_on_literals digits
-returns-clause-no_lines c = record {
-  caps = smallest_caps;
-  capacity = 9;
-  actions = [];
-  requests = [];
-  records = [];
-  document = bare_document;
-  opening = record { good = refl; small = lit≤ tt };
-  asked = tt;
-  of_actions = tt;
-  run = refl;
-  replayed = refl;
-  answered = refl;
-}
+returns-clause-no_lines c = bare_dialogue
+
+abbrev polled : Record
+polled = stepped event.Poll (reply.Poll Nothing)
 
 pub returns-clause-lines : goal.returns-clause-lines
-unfolding serde_json_on_literals digits
-returns-clause-lines c = record {
-  caps = smallest_caps;
-  capacity = 9;
-  actions = Ask event.Poll ∷ [];
-  requests = Fault NotJson ∷ Explain (Ask event.Poll) ∷ [];
-  records = stepped event.Poll (reply.Poll Nothing) ∷ stepped event.Poll (reply.Poll Nothing) ∷ [];
-  document = poll_document;
-  opening = record { good = refl; small = lit≤ tt };
-  asked = (
-    (lit≤ tt, λ utf8. refl),
-    (
-      (
-        lit≤ tt,
-        record {
-          document = _;
-          json = record { utf8 = (explained_poll_line, (refl, refl)); value = refl };
-          asks = refl;
-        },
-      ),
-      tt,
-    ),
-  );
-  of_actions = (refl, (refl, tt));
-  run = refl;
-  replayed = refl;
-  answered = refl;
-}
-
-bare : IsLine (first_line [])
-bare = line_by_test (first_line []) refl
-
-open_brace : IsLine (codes "{")
-open_brace = line_by_test (codes "{") refl
+unfolding digits
+returns-clause-lines c =
+    dialogue_by (first_line poll_line) (codes "{" ∷ explained_poll_line ∷ []) (Ask event.Poll ∷ [])
+    (Fault NotJson ∷ Explain (Ask event.Poll) ∷ []) (polled ∷ polled ∷ []) poll_document
+    (asks_no_json, (asks_explained_poll, tt)) (refl, (refl, tt)) refl refl
 
 -- the first line of such an input, and the lines behind it
 split : (behind : List ℕ) → HasFirst false (line_of_text (first_line []) ++ behind) (first_line []) behind
-split behind = record { line = bare; short = lit≤ tt; front = refl }
+split behind = record { line = bare_line; short = lit≤ tt; front = refl }
 
 one_line : AreLines (codes "{\n{") (codes "{" ∷ []) (codes "{")
 one_line = record {
@@ -114,21 +45,7 @@ no_line : AreLines (codes "{") [] (codes "{")
 no_line = record { joined = refl; each = All-nil IsLine; last = open_brace }
 
 dialogue : IsDialogue (first_line []) (codes "{" ∷ []) (opening smallest_caps) (codes "fault not JSON\n")
-unfolding serde_json_on_literals digits
-dialogue = record {
-  caps = smallest_caps;
-  capacity = 9;
-  actions = [];
-  requests = Fault NotJson ∷ [];
-  records = [];
-  document = bare_document;
-  opening = record { good = refl; small = lit≤ tt };
-  asked = ((lit≤ tt, λ utf8. refl), tt);
-  of_actions = tt;
-  run = refl;
-  replayed = refl;
-  answered = refl;
-}
+dialogue = dialogue_by (first_line []) (codes "{" ∷ []) [] (Fault NotJson ∷ []) [] bare_document (asks_no_json, tt) tt refl refl
 
 -- what answers the whole lines of such an input, and what answers all of them
 whole_of : (behind rest : List ℕ) → AreLines behind (codes "{" ∷ []) rest
@@ -213,20 +130,8 @@ returns-clause-memory c rest long = (
 )
 
 poll_dialogue : IsDialogue (first_line poll_line) [] (opening smallest_caps) (codes "nothing\n")
-poll_dialogue = record {
-  caps = smallest_caps;
-  capacity = 9;
-  actions = Ask event.Poll ∷ [];
-  requests = [];
-  records = stepped event.Poll (reply.Poll Nothing) ∷ [];
-  document = poll_document;
-  opening = record { good = refl; small = lit≤ tt };
-  asked = tt;
-  of_actions = (refl, tt);
-  run = refl;
-  replayed = refl;
-  answered = refl;
-}
+poll_dialogue =
+    dialogue_by (first_line poll_line) [] (Ask event.Poll ∷ []) [] (polled ∷ []) poll_document tt (refl, tt) refl refl
 
 only_line : AnswersWhole true (first_line poll_line) (codes "nothing\n")
 only_line = record {
@@ -236,7 +141,7 @@ only_line = record {
   rest = [];
   last = opening smallest_caps;
   split = record { line = line_by_test (first_line poll_line) refl; short = lit≤ tt; front = (refl, refl) };
-  lines_are = record { joined = refl; each = All-nil IsLine; last = All-nil (λ byte. byte ≢ 10) };
+  lines_are = nothing_behind;
   dialogue = poll_dialogue;
 }
 
@@ -253,7 +158,7 @@ returns-clause-ended c first document = record {
   rest = [];
   last = _;
   answered = codes "written\nwritten\nended 0\nended 0\nrefused 13 BadCommand\naccepted 0\ntaken 0 from 0\ndone 01\nfull\n";
-  lines_are = record { joined = refl; each = All-nil IsLine; last = All-nil (λ byte. byte ≢ 10) };
+  lines_are = nothing_behind;
   dialogue = record {
     caps = caps_of_a_run;
     capacity = 7;

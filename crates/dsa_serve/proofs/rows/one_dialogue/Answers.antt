@@ -1,99 +1,62 @@
 use Rattle.dsa_serve.proofs.rows.one_dialogue.Goals as goal
 use Rattle.dsa_book.specs.declared.answer.Reply.TheVariants as reply
 use Rattle.std.proofs.Common.{◌≡◌, ◌≢◌, ◌∙◌, ◌++◌, ◌&&◌, ℕ, true, false, List, [], ◌∷◌, All, Option, Some, None, map, codes, refl, ap}
-use Rattle.std.proofs.Common.{arith, flat_map, length, length-append, length-take, append_assoc, subst, sym, inl, inr}
-use Rattle.std.specs.Option.{option_map_or, is_some}
-use Rattle.std.proofs.lemmas.{Bool.{and_parts}, List.{append_cancel_right, Elements.{All-nil, All-cons}}}
-use Rattle.serde_json.{specs.{Data.{Data, Items}, Read.{read}}, proofs.OnLiterals.{serde_json_on_literals}}
+use Rattle.std.proofs.Common.{arith, flat_map, length, length-append, length-take, append_assoc, subst, sym, inl, inr, lit≤}
+use Rattle.std.specs.Option.{is_some}
+use Rattle.std.proofs.lemmas.{Bool.{and_parts, false≢true}, List.{append_cancel_right, Elements.{All-nil, All-cons}}}
+use Rattle.serde_json.proofs.OnLiterals.{serde_json_on_literals}
 use Rattle.dsa_regs.specs.{declared.Caps.{Caps}, Caps.{check_caps}}
 use Rattle.dsa_book.specs.declared.answer.{Reply.{Reply}, PollAnswer.TheVariants.{Nothing}}
 use Rattle.dsa_book.specs.declared.event.Event.TheVariants.{Poll}
 use Rattle.dsa_book.specs.{Machine.{next, is_run}, State.{State, opening}}
 use Rattle.dsa_book.proofs.Nexts.{next-is}
 use Rattle.dsa_scenario.specs.declared.{actions.Action.{Action, TheVariants.{Ask}}, run.Record.{Record, TheVariants.{Stepped, Refused}}}
-use Rattle.dsa_scenario.specs.{Actions.{action_of}, Document.{head_of, list_of_items}}
 use Rattle.dsa_scenario.specs.Lines.{record_text, reply_text, line_of_text}
 use Rattle.dsa_scenario.specs.{Run.{AreOf, steps_of_records}, Steps.{visits}}
 use Rattle.dsa_scenario.specs.Worked.{smallest_caps, smallest_caps_text, no_caps_text, document_text}
-use Rattle.dsa_serve.specs.declared.requests.LineFault.TheVariants.{NotJson, NoStep, TooLong}
-use Rattle.dsa_serve.specs.declared.requests.Request.{Request, TheVariants.{Step, Explain, Fault}}
-use Rattle.dsa_serve.specs.{Requests.{Asks, AreAsked, actions_of}, Answers.{answers}}
+use Rattle.dsa_serve.specs.declared.requests.LineFault.TheVariants.{NotJson}
+use Rattle.dsa_serve.specs.declared.requests.Request.{Request, TheVariants.{Step, Fault}}
+use Rattle.dsa_serve.specs.{Requests.{actions_of}, Answers.{answers}}
 use Rattle.dsa_serve.specs.Input.{IsLine, with_rest}
 use Rattle.dsa_serve.specs.{Dialogue.{from_document, IsDialogue, AnswersWhole}, Worked.{first_line, poll_line}}
-use Rattle.dsa_serve.proofs.RowLines.{line_by_test, no_lines, one_way, one_division}
-
--- what is read of a document
-abbrev Head : Type 0
-Head = Caps × ℕ × Items
-
--- a dialogue has the head of what its first line reads as
-head_is : (first : List ℕ) (lines : List (List ℕ)) (last : State) (output : List ℕ) (d : Data)
-    → read first ≡ Some d → (is : IsDialogue first lines last output)
-    → head_of d ≡ Some (is.caps, is.capacity, is.document.head.items)
-head_is first lines last output d e is =
-    let value = is.document.head.json.value in
-    let same : d ≡ is.document.head.document = cc in
-    ap head_of same ∙ is.document.head.head
+use Rattle.dsa_serve.proofs.RowLines.{no_lines, one_way, one_division}
+use Rattle.dsa_serve.proofs.RowDialogues.{parts_are, no_document, bare_parts, bare_line, open_brace, no_request, one_fault}
 
 pub returns-clause-no_document : goal.returns-clause-no_document
 unfolding serde_json_on_literals
 returns-clause-no_document c last output is =
-    let head = head_is (codes "{}") [] last output _ refl is in
-    absurd cc
+    no_document (codes "{}") is.caps is.capacity is.actions _ refl refl is.document
 
 pub returns-clause-bad_caps : goal.returns-clause-bad_caps
 unfolding serde_json_on_literals
 returns-clause-bad_caps c last output is =
-    let head = head_is (document_text no_caps_text (codes "9") []) [] last output _ refl is in
-    let bad : false ≡ true = ap (λ o. option_map_or (λ (h : Head). check_caps h.0) o true) head ∙ is.opening.good in
-    absurd cc
+    let parts = parts_are (document_text no_caps_text (codes "9") []) is.caps is.capacity is.actions _ _ refl refl
+    is.document in
+    false≢true (ap check_caps parts.0 ∙ is.opening.good)
 
 pub returns-clause-large : goal.returns-clause-large
 unfolding serde_json_on_literals
 returns-clause-large c last output is =
-    let head = head_is (document_text smallest_caps_text (codes "1048577") []) [] last output _ refl is in
-    let capacity : 1_048_577 ≡ is.capacity = ap (λ o. option_map_or (λ (h : Head). h.1) o 0) head in
+    let parts = parts_are (document_text smallest_caps_text (codes "1048577") []) is.caps is.capacity is.actions _ _ refl
+    refl is.document in
+    let capacity : 1_048_577 ≡ is.capacity = parts.1 in
     omega (arith, capacity, is.opening.small)
-
--- no object asks no action, and one asks one
-no_action : (actions : List Action) → [] ≡ map Some actions → actions ≡ []
-no_action [] e = refl
-no_action (a ∷ actions) e = absurd cc
-
--- a first line without steps
-bare_actions : (lines : List (List ℕ)) (last : State) (output : List ℕ)
-    → (is : IsDialogue (first_line []) lines last output) → is.actions ≡ []
-unfolding serde_json_on_literals
-bare_actions lines last output is =
-    let head = head_is (first_line []) lines last output _ refl is in
-    let steps = ap (λ o. option_map_or (λ (h : Head). list_of_items h.2) o []) head ∙ is.document.head.listed in
-    no_action is.actions (ap (map action_of) steps ∙ is.document.asked)
-
-bare_caps : (lines : List (List ℕ)) (last : State) (output : List ℕ)
-    → (is : IsDialogue (first_line []) lines last output) → smallest_caps ≡ is.caps
-unfolding serde_json_on_literals
-bare_caps lines last output is =
-    let head = head_is (first_line []) lines last output _ refl is in
-    ap (λ o. option_map_or (λ (h : Head). h.0) o smallest_caps) head
-
-no_request : (requests : List Request) → AreAsked [] requests → requests ≡ []
-no_request [] h = refl
-no_request (r ∷ requests) h = absurd h
 
 no_records : (records : List Record) → AreOf [] [] records → records ≡ []
 no_records [] h = refl
 no_records (r ∷ records) h = absurd h
 
--- and without lines
+-- a first line without steps, and no lines
 bare_requests : (last : State) (output : List ℕ) → (is : IsDialogue (first_line []) [] last output)
     → from_document is.actions is.requests ≡ []
-bare_requests last output is = rw (bare_actions [] last output is) (no_request is.requests is.asked)
+bare_requests last output is =
+    rw (bare_parts is.caps is.capacity is.actions is.document).1 (no_request is.requests is.asked)
 
 state_is : (last : State) (output : List ℕ) → IsDialogue (first_line []) [] last output → last ≡ opening smallest_caps
 state_is last output is =
     let records : is.records ≡ [] = no_records is.records (rw (bare_requests last output is) at is.of_actions) in
     let opened : Some (opening is.caps) ≡ Some last = rw records at is.replayed in
-    let caps = bare_caps [] last output is in
+    let caps = (bare_parts is.caps is.capacity is.actions is.document).0 in
     cc
 
 output_is : (last : State) (output : List ℕ) → IsDialogue (first_line []) [] last output → output ≡ []
@@ -110,31 +73,14 @@ returns-clause-one_end c output h =
     let whole = subst (λ ls. IsDialogue (first_line []) ls h.last h.answered) parts.0 rest in
     rw (output_is h.last h.answered whole, state_is h.last h.answered whole) at h.with_fates
 
--- what is no JSON asks nothing else
-asks_nothing : (request : Request) → Asks (codes "{") request → request ≡ Fault NotJson
-unfolding serde_json_on_literals
-asks_nothing (Fault TooLong) h = absurd (omega (arith, h))
-asks_nothing (Fault NotJson) h = refl
-asks_nothing (Fault NoStep) h =
-    let value = h.1.json.value in
-    absurd cc
-asks_nothing (Step action) h =
-    let value = h.1.json.value in
-    absurd cc
-asks_nothing (Explain action) h =
-    let value = h.1.json.value in
-    absurd cc
-
-one_request : (requests : List Request) → AreAsked (codes "{" ∷ []) requests → requests ≡ Fault NotJson ∷ []
-one_request [] h = absurd h
-one_request (r ∷ []) h = ap (λ x. x ∷ []) (asks_nothing r h.0)
-one_request (r ∷ s ∷ requests) h = absurd h.1
-
+-- and one that is no JSON
 answer_is : (last : State) (output : List ℕ) → IsDialogue (first_line []) (codes "{" ∷ []) last output
     → output ≡ codes "fault not JSON\n"
+unfolding serde_json_on_literals
 answer_is last output is =
     let requests : from_document is.actions is.requests ≡ Fault NotJson ∷ [] =
-    rw (bare_actions (codes "{" ∷ []) last output is) (one_request is.requests is.asked) in
+    rw (bare_parts is.caps is.capacity is.actions is.document).1
+    (one_fault (codes "{") is.requests (lit≤ tt) refl is.asked) in
     is.answered ∙ ap (λ rs. answers rs (visits is.caps is.capacity [] is.records)) requests
 
 pub returns-clause-one_answer : goal.returns-clause-one_answer
@@ -165,12 +111,8 @@ poll_head : (last : State) (output : List ℕ) → (is : IsDialogue (first_line 
     → (smallest_caps ≡ is.caps) × (9 ≡ is.capacity) × (is.actions ≡ Ask Poll ∷ [])
 unfolding serde_json_on_literals
 poll_head last output is =
-    let head = head_is (first_line poll_line) [] last output _ refl is in
-    let steps = ap (λ o. option_map_or (λ (h : Head). list_of_items h.2) o []) head ∙ is.document.head.listed in (
-      ap (λ o. option_map_or (λ (h : Head). h.0) o smallest_caps) head,
-      ap (λ o. option_map_or (λ (h : Head). h.1) o 0) head,
-      one_action is.actions (ap (map action_of) steps ∙ is.document.asked),
-    )
+    let parts = parts_are (first_line poll_line) is.caps is.capacity is.actions _ _ refl refl is.document in
+    (parts.0, parts.1, one_action is.actions parts.2)
 
 pub returns-clause-no_record : goal.returns-clause-no_record
 returns-clause-no_record c last is =
@@ -217,18 +159,12 @@ returns-clause-one_run c last output is =
 
 -- ---- where one stopped
 
-bare : IsLine (first_line [])
-bare = line_by_test (first_line []) refl
-
-open_brace : IsLine (codes "{")
-open_brace = line_by_test (codes "{") refl
-
 -- what answers the whole lines behind a first line without steps answers these
 whole_is : (behind : List ℕ) (lines : List (List ℕ)) (rest input output : List ℕ) → All IsLine lines → IsLine rest
     → flat_map line_of_text lines ++ rest ≡ behind → line_of_text (first_line []) ++ behind ≡ input
     → AnswersWhole false input output → (last : State) × IsDialogue (first_line []) lines last output
 whole_is behind lines rest input output each line is e h =
-    let way = one_way (first_line []) h.first behind h.behind bare h.split.line
+    let way = one_way (first_line []) h.first behind h.behind bare_line h.split.line
     (sym (append_assoc (first_line []) (10 ∷ []) behind) ∙ e ∙ h.split.front
     ∙ append_assoc h.first (10 ∷ []) h.behind) in
     let these = one_division lines h.lines rest h.rest each h.lines_are.each line h.lines_are.last

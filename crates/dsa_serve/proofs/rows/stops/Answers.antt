@@ -5,12 +5,12 @@ use Rattle.std.proofs.Common.{length, length-append, append-nil, append_assoc, i
 use Rattle.std.specs.{Prelude.{Some, IsUtf8}, Io.KnownBytes.{IsAtEnd}}
 use Rattle.std.proofs.{Math.ListN.{get_or-append}, lemmas.List.Elements.{All-nil, All-cons, All-head}}
 use Rattle.dsa_scenario.specs.declared.faults.ScenarioFault.TheVariants.{Write}
-use Rattle.dsa_scenario.specs.Document.{head_of, IsNoJson}
+use Rattle.dsa_scenario.specs.Document.{IsNoJson, HasNoHead}
 use Rattle.dsa_book.specs.State.{State}
-use Rattle.serde_json.{specs.{Data.{number, unsigned}, Read.{read}}, proofs.OnLiterals.{serde_json_on_literals}}
+use Rattle.serde_json.{specs.Read.{read}, proofs.OnLiterals.{serde_json_on_literals}}
 use Rattle.dsa_serve.specs.Input.{IsLine, IsFront, HasFirst, with_rest}
 use Rattle.dsa_serve.specs.Dialogue.{IsDialogue, AnswersWhole, AnswersAll, AnswersSoFar, IsStopped}
-use Rattle.dsa_serve.proofs.RowLines.{no_feed_behind}
+use Rattle.dsa_serve.proofs.{RowLines.{no_feed_behind}, RowDialogues.{no_dialogue}}
 
 one : IsLine (codes "1")
 one = All-cons (λ byte. byte ≢ 10) 49 [] (λ same. absurd (omega (arith, same))) (All-nil (λ byte. byte ≢ 10))
@@ -53,15 +53,7 @@ module _ (bytes : List ℕ) (line : IsLine bytes)
         | inr (inr all) ↦ no_all is.0 is.1 input all.1
       ]
 
--- a number is no document, and no bytes are none
-no_dialogue : (lines : List (List ℕ)) (last : State) (output : List ℕ) → ¬ IsDialogue (codes "1") lines last output
-unfolding serde_json_on_literals
-no_dialogue lines last output is =
-    let value = is.document.head.json.value in
-    let same : number (unsigned 1) ≡ is.document.head.document = cc in
-    let head = ap head_of same ∙ is.document.head.head in
-    absurd cc
-
+-- no bytes begin no dialogue
 no_bytes : (lines : List (List ℕ)) (last : State) (output : List ℕ) → ¬ IsDialogue [] lines last output
 unfolding serde_json_on_literals
 no_bytes lines last output is =
@@ -102,35 +94,22 @@ returns-clause-nothing_read c is =
 pub returns-clause-memory : goal.returns-clause-memory
 returns-clause-memory c = (codes "1", [], [], refl, omega arith, inl (inl (one, omega arith, refl)), refl)
 
-pub returns-clause-document : goal.returns-clause-document
+-- a number is a first line, and no document
+number_first : (ended : Bool) (input behind : List ℕ) → IsFront ended input (codes "1") behind
+    → HasFirst ended input (codes "1") behind
+number_first ended input behind front = record { line = one; short = omega arith; front = front }
+
+no_head : HasNoHead (codes "1")
 unfolding serde_json_on_literals
-returns-clause-document c = (
-  codes "1",
-  codes "1",
-  [],
-  true,
-  refl,
-  record { line = one; short = omega arith; front = (refl, refl) },
-  λ ended. refl,
-  omega arith,
-  record { document = _; json = record { utf8 = (codes "1", (refl, refl)); value = refl }; none = refl },
-  refl,
-)
+no_head = record { document = _; json = record { utf8 = (codes "1", (refl, refl)); value = refl }; none = refl }
+
+pub returns-clause-document : goal.returns-clause-document
+returns-clause-document c =
+    (codes "1", codes "1", [], true, refl, number_first true (codes "1") [] (refl, refl), λ ended. refl, omega arith, no_head, refl)
 
 pub returns-clause-document_before_more : goal.returns-clause-document_before_more
-unfolding serde_json_on_literals
-returns-clause-document_before_more c = (
-  codes "1\n",
-  codes "1",
-  [],
-  false,
-  refl,
-  record { line = one; short = omega arith; front = refl },
-  λ ended. absurd cc,
-  omega arith,
-  record { document = _; json = record { utf8 = (codes "1", (refl, refl)); value = refl }; none = refl },
-  refl,
-)
+returns-clause-document_before_more c =
+    (codes "1\n", codes "1", [], false, refl, number_first false (codes "1\n") [] refl, λ ended. absurd cc, omega arith, no_head, refl)
 
 pub returns-clause-other_fault : goal.returns-clause-other_fault
 unfolding serde_json_on_literals

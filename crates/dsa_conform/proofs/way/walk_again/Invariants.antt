@@ -2,7 +2,7 @@ use Rattle.std.proofs.Common.{◌≤◌, List, map, take}
 use Rattle.serde_json.specs.View.{view}
 use Rattle.dsa_scenario.specs.declared.actions.Action.{Action}
 use Rattle.dsa_conform.specs.{Seen.{Seen}, Run.{AreRead, IsFollowedTo}}
-use Rattle.dsa_conform.proofs.way.walk_first.Given as goal
+use Rattle.dsa_conform.proofs.way.walk_again.Given as goal
 
 -- the device has come by the steps before
 abbrev pub invariant-loop-i : goal.invariant-loop-i
