@@ -9,7 +9,8 @@
 #define CHECK(is)                                                        \
 	do {                                                             \
 		if (!(is)) {                                             \
-			fprintf(stderr, "%s:%d: %s\n", __FILE__, __LINE__, #is); \
+			fprintf(stderr, "%s:%d: %s: %s\n",               \
+				__FILE__, __LINE__, __func__, #is);      \
 			exit(1);                                         \
 		}                                                        \
 	} while (0)

@@ -54,11 +54,13 @@ def module_of(file: str) -> ProofPath:
 
 
 def is_for_some_arguments(head: str) -> bool:
-    """Whether an impl with this head gives its type other arguments than its own parameters."""
+    """Whether an impl with this head gives its type other arguments than its own parameters. Any
+    lifetime is one of these."""
     found = re.fullmatch(r"impl(?:<(.*?)>)? \w+<(.*)>\s*", head)
     if not found:
         return False
-    return not {*re.findall(r"\w+", found[2])} <= {*re.findall(r"\w+", found[1] or "")}
+    given = re.sub(r"'\w+", "", found[2])
+    return not {*re.findall(r"\w+", given)} <= {*re.findall(r"\w+", found[1] or "")}
 
 
 def with_one_clause(text: str, name: str) -> Optional[str]:

@@ -8,7 +8,7 @@ use Rattle.std.specs.declared.alloc.Global.{Global}
 use Rattle.std.proofs.lemmas.Cmp.{nat_list_cmp_total, tied_itself}
 use Rattle.serde_json.specs.{Data.{Data, null, boolean, number, string, array, object, Members}, Find.{get}}
 use Rattle.serde_json.specs.Find.{get_member, as_object}
-use Rattle.dsa_check.specs.{declared.fields.Field.{Field}, Steps.{row_of_field}}
+use Rattle.dsa_scenario.specs.{declared.fields.Field.{Field}, Fields.{row_of_field}}
 use Rattle.serde_json.specs.{View.{view, members_view}, declared.value.Value.{Value}}
 
 -- the object that a value is

@@ -7,7 +7,7 @@ use Rattle.serde_json.specs.{Data.{Data}, Find.{as_object}}
 use Rattle.serde_json.specs.{View.{members_view}, declared.value.Value.{Value}}
 use Rattle.dsa_check.specs.Reasons.{is_asked, is_plain, stray_distance, is_below, nearest_below}
 use Rattle.dsa_check.specs.Reasons.{keys_of_members, keys_of}
-use Rattle.dsa_check.specs.Steps.{Row}
+use Rattle.dsa_scenario.specs.Fields.{Row}
 use Rattle.dsa_check.proofs.Keys.{object_is}
 
 module _ {X : Type 0} (far : X → Option ℕ) (bound : ℕ) (found : Option X) (x : X) (xs : List X) (target : Option X)

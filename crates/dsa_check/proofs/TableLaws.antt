@@ -1,25 +1,21 @@
 -- The tables of keys say what the definitions of the objects say.
-use Rattle.dsa_check.specs.declared.fields.Form.TheVariants as form
-use Rattle.std.proofs.Common.{◌≡◌, ℕ, suc, ◌-◌, ◌^◌, Bool, true, false, ◌&&◌, cond, List, [], ◌∷◌, refl, sym}
-use Rattle.std.proofs.Common.{◌∙◌, arith, drop}
-use Rattle.std.specs.Prelude.{if◌then◌else◌, Option, Some, None, is_some, option_and_then, bytes_eq, codes}
+use Rattle.dsa_scenario.specs.declared.fields.Form.TheVariants as form
+use Rattle.std.proofs.Common.{◌≡◌, ℕ, zero, suc, ◌-◌, ◌^◌, Bool, true, false, ◌&&◌, List, [], ◌∷◌, refl, sym}
+use Rattle.std.proofs.Common.{◌∙◌, arith}
+use Rattle.std.specs.Prelude.{if◌then◌else◌, Option, Some, None, is_some, option_and_then, codes}
 use Rattle.std.specs.Prelude.{nat_le, nat_lt, IfSome}
 use Rattle.dsa_regs.specs.Caps.{check_caps}
 use Rattle.std.proofs.Math.Bool.{and_assoc, and-true, and-false}
 use Rattle.std.proofs.lemmas.Bool.{Decides.{nat_tests}}
 use Rattle.serde_json.specs.{Data.{Data, null, boolean, number, string, array, object}, Find.{get, as_u64}}
-use Rattle.serde_json.specs.Find.{as_number, as_bool, as_str, as_array}
+use Rattle.serde_json.specs.Find.{as_number, as_bool, as_str, as_array, as_object}
 use Rattle.dsa_scenario.specs.declared.actions.Action.{Action}
-use Rattle.dsa_scenario.specs.Fields.{below_limit, whole_of, wholes_of, truth_of, text_of, hex_bytes_of}
-use Rattle.dsa_scenario.specs.Actions.{action_of, action_by, queue_action_of, group_action_of, enqcmd_action_of}
-use Rattle.dsa_scenario.specs.Actions.{movdir_action_of}
-use Rattle.dsa_scenario.specs.Actions.{dispatch_action_of, fetch_action_of, start_action_of, finish_action_of}
-use Rattle.dsa_scenario.specs.Actions.{command_action_of, desc_of}
-use Rattle.dsa_scenario.specs.{Actions.{queue_config_of, group_config_of, caps_of}, Document.{head_of}}
-use Rattle.dsa_check.specs.declared.kinds.StepKind.{StepKind, TheVariants.{Queue, Group, Enqcmd, Movdir, Dispatch}}
-use Rattle.dsa_check.specs.declared.kinds.StepKind.TheVariants.{Fetch, Start, Finish, Command, Poll, Clear}
+use Rattle.dsa_scenario.specs.declared.{fields.Form.{Form}, actions.StepKind.{StepKind}}
+use Rattle.dsa_scenario.specs.Fields.{below_limit, whole_of, hex_bytes_of, at_least, Row, Maker, reading_at, made_of}
+use Rattle.dsa_scenario.specs.Actions.{KindRow, kind_row, row_of_kind, rows_in, asked_by, action_by, kind_of, action_of}
+use Rattle.dsa_scenario.specs.{Actions.{caps_of}, Document.{head_of}}
 use Rattle.dsa_check.specs.Reasons.{fits_form, has_rows, is_step_of, is_step, has_caps, is_between}
-use Rattle.dsa_check.specs.Steps.{bits, bounded_number, rows_of_kind, kind_named, caps_rows, device_rows, document_rows}
+use Rattle.dsa_check.specs.Tables.{bounded_number, caps_rows, device_rows, document_rows}
 
 -- what needs a value is there where that value is, and the rest
 needs : {A B : Type 0} (o : Option A) (f : A → Option B) (here rest : Bool) → is_some o ≡ here
@@ -40,162 +36,88 @@ at_number : (limit most : ℕ) → limit ≡ suc most → (o : Option ℕ)
 at_number limit most e None = refl
 at_number limit most e (Some n) = is_below n limit most e (nat_lt n limit) refl
 
-at_whole : (limit most : ℕ) → limit ≡ suc most → (o : Option Data)
-    → is_some (option_and_then (below_limit limit) (option_and_then as_u64 (option_and_then as_number o)))
-    ≡ fits_form (form.Whole 0 most) o
-at_whole limit most e None = refl
-at_whole limit most e (Some d) = at_number limit most e (option_and_then as_u64 (as_number d))
-
 at_held : (limit most least upto : ℕ) → limit ≡ suc most → (o : Option Data)
     → is_some (option_and_then (below_limit limit) (option_and_then as_u64 (option_and_then as_number o)))
     ≡ fits_form (form.Bounded most least upto) o
 at_held limit most least upto e None = refl
 at_held limit most least upto e (Some d) = at_number limit most e (option_and_then as_u64 (as_number d))
 
+-- a number that is no less
+no_less : (less most n : ℕ) (b : Bool) → nat_lt less n ≡ b → nat_le n most ≡ true
+    → is_some (if b then Some n else None) ≡ (nat_le (suc less) n && nat_le n most)
+no_less less most n true e h = grind (arith, nat_tests)
+no_less less most n false e h = grind (arith, nat_tests)
+
+-- a number between two
+in_range : (least most n : ℕ) (b : Bool) → nat_lt n (suc most) ≡ b
+    → is_some (option_and_then (at_least least) (if b then Some n else None)) ≡ (nat_le least n && nat_le n most)
+in_range zero most n true h = grind (arith, nat_tests)
+in_range (suc less) most n true h = no_less less most n (nat_lt less n) refl (grind (arith, nat_tests))
+in_range zero most n false h = grind (arith, nat_tests)
+in_range (suc less) most n false h = grind (arith, nat_tests)
+
+of_number : (least most : ℕ) (o : Option ℕ)
+    → is_some (option_and_then (at_least least) (option_and_then (below_limit (suc most)) o)) ≡ is_between least most o
+of_number least most None = refl
+of_number least most (Some n) = in_range least most n (nat_lt n (suc most)) refl
+
+at_whole : (least most : ℕ) (o : Option Data)
+    → is_some (option_and_then (at_least least) (option_and_then (below_limit (suc most))
+    (option_and_then as_u64 (option_and_then as_number o))))
+    ≡ fits_form (form.Whole least most) o
+at_whole least most None = refl
+at_whole least most (Some d) = of_number least most (option_and_then as_u64 (as_number d))
+
 at_truth : (o : Option Data) → is_some (option_and_then as_bool o) ≡ fits_form form.Truth o
 at_truth None = refl
 at_truth (Some d) = refl
 
-of_bytes : {A : Type 0} (f : List ℕ → A) (o : Option (List ℕ))
-    → is_some (option_and_then (λ bytes. Some (f bytes)) o) ≡ is_some o
-of_bytes f None = refl
-of_bytes f (Some bytes) = refl
+at_text : (o : Option Data) → is_some (option_and_then as_str o) ≡ fits_form form.Text o
+at_text None = refl
+at_text (Some d) = refl
 
-of_text : {A : Type 0} (f : List ℕ → A) (o : Option (List ℕ))
-    → is_some (option_and_then (λ text. option_and_then (λ bytes. Some (f bytes)) (hex_bytes_of text)) o)
-    ≡ is_some (option_and_then hex_bytes_of o)
-of_text f None = refl
-of_text f (Some text) = of_bytes f (hex_bytes_of text)
+at_digits : (o : Option Data) → is_some (option_and_then hex_bytes_of (option_and_then as_str o)) ≡ fits_form form.Digits o
+at_digits None = refl
+at_digits (Some d) = refl
 
-at_digits : {A : Type 0} (f : List ℕ → A) (o : Option Data)
-    → is_some (option_and_then (λ text. option_and_then (λ bytes. Some (f bytes)) (hex_bytes_of text))
-    (option_and_then as_str o)) ≡ fits_form form.Digits o
-at_digits f None = refl
-at_digits f (Some d) = of_text f (as_str d)
+at_array : (o : Option Data) → is_some (option_and_then as_array o) ≡ fits_form form.Array o
+at_array None = refl
+at_array (Some d) = refl
 
--- ---- one kind
+at_object : (o : Option Data) → is_some (option_and_then as_object o) ≡ fits_form form.Object o
+at_object None = refl
+at_object (Some d) = refl
 
-module _ (d : Data) where
-  byte : (key : List ℕ) → is_some (whole_of (2 ^ 8) key d) ≡ fits_form (bits 8) (get key d)
-  byte key = at_whole (2 ^ 8) (2 ^ 8 - 1) refl (get key d)
+-- something is read at a key exactly where what stands there is of the form
+reading_fits : (wanted : Form) (key : List ℕ) (d : Data) → is_some (reading_at wanted key d) ≡ fits_form wanted (get key d)
+reading_fits (form.Whole least most) key d = at_whole least most (get key d)
+reading_fits (form.Bounded field least most) key d = at_held (suc field) field least most refl (get key d)
+reading_fits form.Truth key d = at_truth (get key d)
+reading_fits form.Text key d = at_text (get key d)
+reading_fits form.Digits key d = at_digits (get key d)
+reading_fits form.Array key d = at_array (get key d)
+reading_fits form.Object key d = at_object (get key d)
 
-  short : (key : List ℕ) → is_some (whole_of (2 ^ 16) key d) ≡ fits_form (bits 16) (get key d)
-  short key = at_whole (2 ^ 16) (2 ^ 16 - 1) refl (get key d)
+-- ---- one kind, and all
 
-  word : (key : List ℕ) → is_some (whole_of (2 ^ 32) key d) ≡ fits_form (bits 32) (get key d)
-  word key = at_whole (2 ^ 32) (2 ^ 32 - 1) refl (get key d)
+-- something is made by a table exactly where its rows are there
+made_has : (A : Type 0) (rows : List Row) (made : Maker A rows) (d : Data)
+    → is_some (made_of {A = A} rows made d) ≡ has_rows d rows
+made_has A [] made d = refl
+made_has A (row ∷ rows) made d =
+    needs (reading_at row.1 row.0 d) (λ reading. made_of {A = A} rows (made reading) d) (fits_form row.1 (get row.0 d))
+    (has_rows d rows) (reading_fits row.1 row.0 d) (λ reading. made_has A rows (made reading) d)
 
-  long : (key : List ℕ) → is_some (whole_of (2 ^ 64) key d) ≡ fits_form (bits 64) (get key d)
-  long key = at_whole (2 ^ 64) (2 ^ 64 - 1) refl (get key d)
+row_has : (row : KindRow) (d : Data) → is_some (asked_by row d) ≡ has_rows d (rows_in row)
+row_has (kind_row name rows asked) d = made_has Action rows asked d
 
-  truth : (key : List ℕ) → is_some (truth_of key d) ≡ fits_form form.Truth (get key d)
-  truth key = at_truth (get key d)
-
-  digits : is_some (desc_of d) ≡ fits_form form.Digits (get (codes "desc") d)
-  digits = at_digits _ (get (codes "desc") d)
-
-  both : (limit : ℕ) (first second : List ℕ) (here there : Bool) → is_some (whole_of limit first d) ≡ here
-      → is_some (whole_of limit second d) ≡ there → is_some (wholes_of limit first second d) ≡ (here && (there && true))
-  both limit first second here there e f = needs _ _ here (there && true) e (λ m. needs _ _ there true f (λ n. refl))
-
-  two_bytes : (first second : List ℕ) → is_some (wholes_of (2 ^ 8) first second d)
-      ≡ (fits_form (bits 8) (get first d) && (fits_form (bits 8) (get second d) && true))
-  two_bytes first second = both (2 ^ 8) first second _ _ (byte first) (byte second)
-
-  two_shorts : (first second : List ℕ) → is_some (wholes_of (2 ^ 16) first second d)
-      ≡ (fits_form (bits 16) (get first d) && (fits_form (bits 16) (get second d) && true))
-  two_shorts first second = both (2 ^ 16) first second _ _ (short first) (short second)
-
-  queue_config_has : is_some (queue_config_of d)
-      ≡ has_rows d (drop 1 (rows_of_kind Queue))
-  queue_config_has =
-      needs _ _ _ _ (two_shorts (codes "size") (codes "threshold"))
-      (λ m. needs _ _ _ _ (truth (codes "dedicated")) (λ dedicated. needs _ _ _ _ (byte (codes "priority")) (λ priority.
-      needs _ _ _ _ (word (codes "pasid")) (λ pasid. needs _ _ _ true
-      (two_bytes (codes "batch") (codes "xfer")) (λ n. refl)))))
-      ∙ simp (and_assoc, and-true)
-
-  queue_has : is_some (queue_action_of d) ≡ has_rows d (rows_of_kind Queue)
-  queue_has =
-      needs _ _ _ _ (short (codes "queue")) (λ queue. needs _ _ _ true queue_config_has (λ config. refl))
-      ∙ simp (and_assoc, and-true)
-
-  group_config_has : is_some (group_config_of d)
-      ≡ has_rows d (
-      (codes "queues", bits 64) ∷
-      (codes "engines", bits 64) ∷
-      (codes "reserved", bits 16) ∷
-      (codes "allowed", bits 16) ∷ [])
-  group_config_has =
-      needs _ _ _ _ (long (codes "queues")) (λ queues. needs _ _ _ _ (long (codes "engines")) (λ engines.
-      needs _ _ _ _ (short (codes "reserved")) (λ reserved.
-      needs _ _ _ true (short (codes "allowed")) (λ allowed. refl))))
-
-  group_has : is_some (group_action_of d) ≡ has_rows d (rows_of_kind Group)
-  group_has =
-      needs _ _ _ _ (short (codes "group")) (λ group. needs _ _ _ true group_config_has (λ config. refl))
-      ∙ simp (and_assoc, and-true)
-
-  enqcmd_has : is_some (enqcmd_action_of d) ≡ has_rows d (rows_of_kind Enqcmd)
-  enqcmd_has =
-      needs _ _ _ _ (two_shorts (codes "client") (codes "queue"))
-      (λ m. needs _ _ _ _ (truth (codes "limited")) (λ limited. needs _ _ _ _ (word (codes "pasid")) (λ pasid.
-      needs _ _ _ true digits (λ desc. refl)))) ∙ simp (and_assoc, and-true)
-
-  movdir_has : is_some (movdir_action_of d) ≡ has_rows d (rows_of_kind Movdir)
-  movdir_has =
-      needs _ _ _ _ (two_shorts (codes "client") (codes "queue"))
-      (λ m. needs _ _ _ _ (truth (codes "limited")) (λ limited. needs _ _ _ true digits (λ desc. refl)))
-      ∙ simp (and_assoc, and-true)
-
-  dispatch_has : is_some (dispatch_action_of d) ≡ has_rows d (rows_of_kind Dispatch)
-  dispatch_has = needs _ _ _ true (short (codes "engine")) (λ engine. refl)
-
-  fetch_has : is_some (fetch_action_of d) ≡ has_rows d (rows_of_kind Fetch)
-  fetch_has = needs _ _ _ _ (short (codes "engine")) (λ engine. needs _ _ _ true digits (λ desc. refl))
-
-  start_has : is_some (start_action_of d) ≡ has_rows d (rows_of_kind Start)
-  start_has = needs _ _ _ true (short (codes "engine")) (λ engine. refl)
-
-  finish_has : is_some (finish_action_of d) ≡ has_rows d (rows_of_kind Finish)
-  finish_has =
-      needs _ _ _ _ (short (codes "engine")) (λ engine. needs _ _ _ _ (word (codes "name")) (λ name.
-      needs _ _ _ true (truth (codes "fault")) (λ fault. refl)))
-
-  command_has : is_some (command_action_of d) ≡ has_rows d (rows_of_kind Command)
-  command_has = needs _ _ _ true (word (codes "word")) (λ word. refl)
-
-  -- ---- all kinds
-
-  -- a kind, or another one
-  one_of : (b : Bool) (x y : Option Action) (kind : StepKind) (other : Option StepKind)
-      → is_some x ≡ has_rows d (rows_of_kind kind) → is_some y ≡ is_step_of d other
-      → is_some (if b then x else y) ≡ is_step_of d (cond b (Some kind) other)
-  one_of true x y kind other e f = e
-  one_of false x y kind other e f = f
-
-  by_name : (name : List ℕ) → is_some (action_by name d) ≡ is_step_of d (kind_named name)
-  by_name name =
-      one_of (bytes_eq name (codes "queue")) _ _ Queue _ queue_has
-      (one_of (bytes_eq name (codes "group")) _ _ Group _ group_has
-      (one_of (bytes_eq name (codes "enqcmd")) _ _ Enqcmd _ enqcmd_has
-      (one_of (bytes_eq name (codes "movdir")) _ _ Movdir _ movdir_has
-      (one_of (bytes_eq name (codes "dispatch")) _ _ Dispatch _ dispatch_has
-      (one_of (bytes_eq name (codes "fetch")) _ _ Fetch _ fetch_has
-      (one_of (bytes_eq name (codes "start")) _ _ Start _ start_has
-      (one_of (bytes_eq name (codes "finish")) _ _ Finish _ finish_has
-      (one_of (bytes_eq name (codes "command")) _ _ Command _ command_has
-      (one_of (bytes_eq name (codes "poll")) _ _ Poll _ refl
-      (one_of (bytes_eq name (codes "clear")) _ _ Clear None refl refl))))))))))
-
-  by_text : (o : Option (List ℕ))
-      → is_some (option_and_then (λ name. action_by name d) o) ≡ is_step_of d (option_and_then kind_named o)
-  by_text None = refl
-  by_text (Some name) = by_name name
+kind_has : (kind : Option StepKind) (d : Data) → is_some (option_and_then (λ k. action_by k d) kind) ≡ is_step_of d kind
+kind_has None d = refl
+kind_has (Some kind) d = row_has (row_of_kind kind) d
 
 -- what asks something has the rows of its kind
 pub action_has : (d : Data) → is_some (action_of d) ≡ is_step d
-action_has d = by_text d (text_of (codes "do") d)
+action_has d = kind_has (kind_of d) d
 
 -- ---- caps and documents
 
@@ -233,10 +155,6 @@ caps_in (Some (string s)) = refl
 caps_in (Some (array ds)) = refl
 caps_in (Some (object ms)) = caps_have (object ms)
 
-array_in : (o : Option Data) → is_some (option_and_then as_array o) ≡ fits_form form.Array o
-array_in None = refl
-array_in (Some d) = refl
-
 -- the same two in another order
 in_order : (a b c d : Bool) → ((a && b) && (c && (d && true))) ≡ ((a && (c && (d && true))) && b)
 in_order false b c d = refl
@@ -246,7 +164,7 @@ in_order true true c d = sym (and-true (c && (d && true)))
 pub head_has : (d : Data) → is_some (head_of d) ≡ (has_rows d document_rows && has_caps (get (codes "caps") d))
 head_has d =
     needs _ _ _ _ (caps_in (get (codes "caps") d)) (λ caps. needs _ _ _ _ (capacity_has d) (λ capacity.
-    needs _ _ _ true (array_in (get (codes "steps") d)) (λ steps. refl)))
+    needs _ _ _ true (at_array (get (codes "steps") d)) (λ steps. refl)))
     ∙ in_order (fits_form form.Object (get (codes "caps") d)) (has_caps (get (codes "caps") d))
     (fits_form (bounded_number 64 0 (2 ^ 20)) (get (codes "capacity") d)) (fits_form form.Array (get (codes "steps") d))
 

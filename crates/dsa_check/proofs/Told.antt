@@ -1,5 +1,5 @@
 -- What is added to a list, one part more.
-use Rattle.dsa_check.specs.declared.fields.Form.TheVariants as form
+use Rattle.dsa_scenario.specs.declared.fields.Form.TheVariants as form
 use Rattle.std.proofs.Common.{◌≡◌, ◌<◌, ◌+◌, ◌%◌, ◌==◌, ℕ, suc, Bool, true, false, List, [], ◌∷◌, ◌++◌, map, length, take}
 use Rattle.std.proofs.Common.{get_or, refl, sym, ap, subst, ◌∙◌}
 use Rattle.std.proofs.Math.ListN.{get_or-map}
@@ -14,10 +14,10 @@ use Rattle.serde_json.specs.{Data.{Data, null, boolean, number, string, array, o
 use Rattle.serde_json.specs.{View.{view}, declared.value.Value.{Value}}
 use Rattle.serde_json.specs.Read.{read}
 use Rattle.dsa_scenario.specs.Document.{IsJson}
-use Rattle.dsa_check.specs.declared.{fields.Field.{Field}, fields.Key.{Key}}
+use Rattle.dsa_scenario.specs.declared.fields.{Field.{Field}, Form.{Form}}
+use Rattle.dsa_check.specs.declared.fields.Key.{Key}
 use Rattle.dsa_check.specs.declared.finding.Reason.{Reason, TheVariants.{Missing, Misspelled, Unfit, OddDigits}}
 use Rattle.dsa_check.specs.declared.finding.Reason.TheVariants.{ManyDigits, NoDigit}
-use Rattle.dsa_check.specs.declared.fields.Form.{Form}
 use Rattle.dsa_check.specs.declared.finding.Finding.{Finding}
 use Rattle.dsa_check.specs.Findings.{Appends, AppendsAll, AreInCaps, IsFindingOf, IsFindingIn, IsFounded}
 use Rattle.dsa_check.specs.Findings.{AreFounded, TellsWhy}
@@ -25,7 +25,8 @@ use Rattle.dsa_check.specs.Judgement.{step_items_of}
 use Rattle.dsa_check.specs.Reasons.{is_unfit, near_key, IsStrayKey, IsReasonAt, AreReasonsAt, AreReasonsOf}
 use Rattle.dsa_check.specs.Reasons.{reason_of_digits, text_reason, unfit_reason, first_no_digit, found_of, kind_row}
 use Rattle.dsa_check.specs.Reasons.{HasStrayKey, TellsNearKey, IsKindReason}
-use Rattle.dsa_check.specs.Steps.{Row, row_of_field, caps_rows}
+use Rattle.dsa_scenario.specs.Fields.{Row, row_of_field}
+use Rattle.dsa_check.specs.Tables.{caps_rows}
 
 -- ---- lists
 

@@ -11,7 +11,8 @@ use Rattle.dsa_check.specs.declared.finding.Reason.{Reason, TheVariants.{NoObjec
 use Rattle.dsa_check.specs.{Flaws.{IsSyntaxAt}, Judgement.{step_items_of}}
 use Rattle.dsa_check.specs.Places.{BeginJson, BeginsOnLine, line_after, column_after}
 use Rattle.dsa_check.specs.Reasons.{found_of, AreReasonsOf, AreStepReasons}
-use Rattle.dsa_check.specs.Steps.{kind_of, document_rows, caps_rows, device_rows, history_rows}
+use Rattle.dsa_scenario.specs.Actions.{kind_of}
+use Rattle.dsa_check.specs.Tables.{document_rows, caps_rows, device_rows, history_rows}
 
 -- ---- the reasons of each part
 

@@ -5,5 +5,5 @@ pub mod Judgement
 pub mod Lines
 pub mod Places
 pub mod Reasons
-pub mod Steps
+pub mod Tables
 pub mod Worked

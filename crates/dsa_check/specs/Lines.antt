@@ -1,7 +1,7 @@
 -- The lines of the faults of a document.
 use Rattle.dsa_check.specs.declared.syntax.Wanted.TheVariants as wanted
 use Rattle.dsa_check.specs.declared.finding.Reason.TheVariants as reason
-use Rattle.dsa_check.specs.declared.fields.Form.TheVariants as form
+use Rattle.dsa_scenario.specs.declared.fields.Form.TheVariants as form
 use Rattle.dsa_check.specs.declared.fields.Found.TheVariants as found
 use Rattle.std.specs.Prelude.{ℕ, Bool, true, false, List, [], ◌∷◌, ◌++◌, Option, Some, None, codes, decimal, flat_map}
 use Rattle.std.specs.Prelude.{nat_lt, if◌then◌else◌}
@@ -11,31 +11,14 @@ use Rattle.std.specs.declared.alloc.Global.{Global}
 use Rattle.dsa_event_text.specs.Text.{count_text}
 use Rattle.dsa_scenario.specs.declared.faults.ScenarioFault.{ScenarioFault, TheVariants.{NotJson, BadDocument, BadStep}}
 use Rattle.dsa_scenario.specs.declared.faults.ScenarioFault.TheVariants.{BadCaps, BadCapacity}
-use Rattle.dsa_check.specs.declared.fields.{Key.{Key}, Form.{Form}, Found.{Found}}
+use Rattle.dsa_scenario.specs.declared.{fields.Form.{Form}, actions.StepKind.{StepKind}}
+use Rattle.dsa_scenario.specs.Actions.{kinds, kind_text, names_text}
+use Rattle.dsa_check.specs.declared.fields.{Key.{Key}, Found.{Found}}
 use Rattle.dsa_check.specs.declared.finding.{Finding.{Finding}, Reason.{Reason}}
 use Rattle.dsa_check.specs.declared.syntax.Syntax.{Syntax, TheVariants.{TooDeep, CommaBefore, Comment, Unwanted}}
 use Rattle.dsa_check.specs.declared.syntax.Piece.{Piece, TheVariants.{End, LineBreak, Tab, Control, Character}}
 use Rattle.dsa_check.specs.declared.syntax.Piece.TheVariants.{ByteOrderMark, Told, Text, Number, Word}
 use Rattle.dsa_check.specs.declared.syntax.Wanted.{Wanted}
-use Rattle.dsa_check.specs.declared.kinds.StepKind.{StepKind, TheVariants.{Queue, Group, Enqcmd, Movdir, Dispatch}}
-use Rattle.dsa_check.specs.declared.kinds.StepKind.TheVariants.{Fetch, Start, Finish, Command, Poll, Clear}
-
--- the name of a kind of steps
-abbrev pub kind_text : StepKind → List ℕ
-kind_text Queue = codes "queue"
-kind_text Group = codes "group"
--- of clients
-kind_text Enqcmd = codes "enqcmd"
-kind_text Movdir = codes "movdir"
--- of engines
-kind_text Dispatch = codes "dispatch"
-kind_text Fetch = codes "fetch"
-kind_text Start = codes "start"
-kind_text Finish = codes "finish"
--- of an administrator
-kind_text Command = codes "command"
-kind_text Poll = codes "poll"
-kind_text Clear = codes "clear"
 
 -- ---- what is wrong (profile)
 
@@ -145,8 +128,7 @@ near_kind_text name kind =
 abbrev pub no_kind_text : Option (String Global) → Option StepKind → List ℕ
 no_kind_text (Some name) (Some kind) = near_kind_text (string_bytes name) kind
 no_kind_text (Some name) None =
-    codes "\"do\" is \"" ++ string_bytes name
-    ++ codes "\", none of queue, group, enqcmd, movdir, dispatch, fetch, start, finish, command, poll and clear"
+    codes "\"do\" is \"" ++ string_bytes name ++ (codes "\", none of " ++ names_text kinds)
 no_kind_text None near = codes "\"do\" names no kind of step"
 
 -- how many digits a text has

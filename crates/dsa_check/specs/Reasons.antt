@@ -9,11 +9,12 @@ use Rattle.std.specs.declared.alloc.Global.{Global}
 use Rattle.strsim.specs.Edits.{osa_table}
 use Rattle.serde_json.specs.{Data.{Data, null, boolean, number, string, array, object}, Find.{get, as_u64, as_i64}}
 use Rattle.serde_json.specs.{Data.{Members, no_members, member}, Find.{as_number, as_bool, as_str, as_array, as_object}}
-use Rattle.dsa_scenario.specs.Fields.{hex_bytes_of, text_of}
-use Rattle.dsa_check.specs.declared.fields.{Form.{Form}, Found.{Found}, Key.{Key}}
-use Rattle.dsa_check.specs.declared.{finding.Reason.{Reason}, kinds.StepKind.{StepKind}}
-use Rattle.dsa_check.specs.{Lines.{kind_text}, Steps.{Row, rows_of_kind, caps_rows, kinds, kind_named, kind_of}}
-use Rattle.dsa_check.specs.declared.fields.Form.TheVariants as form
+use Rattle.dsa_scenario.specs.Fields.{hex_bytes_of, text_of, Row}
+use Rattle.dsa_scenario.specs.declared.{fields.Form.{Form}, actions.StepKind.{StepKind}}
+use Rattle.dsa_scenario.specs.Actions.{kinds, kind_text, rows_of_kind, kind_named, kind_of}
+use Rattle.dsa_check.specs.declared.fields.{Found.{Found}, Key.{Key}}
+use Rattle.dsa_check.specs.{declared.finding.Reason.{Reason}, Tables.{caps_rows}}
+use Rattle.dsa_scenario.specs.declared.fields.Form.TheVariants as form
 use Rattle.dsa_check.specs.declared.finding.Reason.TheVariants as reason
 use Rattle.dsa_check.specs.declared.fields.Found.TheVariants as found
 

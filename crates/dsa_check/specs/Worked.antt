@@ -10,7 +10,8 @@ use Rattle.dsa_scenario.specs.declared.faults.ScenarioFault.TheVariants.{BadCapa
 use Rattle.dsa_check.specs.declared.syntax.Wanted.{Wanted}
 use Rattle.dsa_check.specs.declared.syntax.Wanted.TheVariants as wanted
 use Rattle.dsa_check.specs.declared.{fields.Key.{Key}, finding.{Finding.{Finding}, Reason.{Reason}}}
-use Rattle.dsa_check.specs.{Reasons.{is_unfit, near_kind}, Steps.{Row, rows_of_kind, kind_of}}
+use Rattle.dsa_scenario.specs.{Fields.{Row}, Actions.{rows_of_kind, kind_of}}
+use Rattle.dsa_check.specs.Reasons.{is_unfit, near_kind}
 
 abbrev pub right_document : Fields
 right_document =

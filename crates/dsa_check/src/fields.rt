@@ -1,10 +1,10 @@
-//! The keys that objects are asked for, and what may stand at them.
+//! The keys that objects are asked for, and what stands at them.
 
 ghost use Rattle.std.specs.Prelude.{◌≡◌};
 ghost use Rattle.serde_json.specs.View.{view};
 ghost use Rattle.dsa_check.specs.Reasons.{found_of, is_of_form};
 
-use dsa_scenario::bytes_of_hex;
+use dsa_scenario::{Form, bytes_of_hex};
 use serde_json::Value;
 
 /// A key of a document, by its name and the object that it stands in.
@@ -13,29 +13,6 @@ pub struct Key {
     pub name: &'static str,
     /// Whether it stands in the object `caps` of the one that is told of.
     pub in_caps: bool,
-}
-
-/// What may stand at a key.
-#[derive(Clone, Copy, PartialEq, Eq)]
-pub enum Form {
-    /// A whole number without sign, from the least to the most.
-    Whole { least: u64, most: u64 },
-    /// A whole number without sign that the document's field holds, of which a device may have
-    /// those from the least to the most.
-    Bounded { field: u64, least: u64, most: u64 },
-    Truth,
-    Text,
-    /// A text of hexadecimal digits, which are the bytes of a descriptor.
-    Digits,
-    Array,
-    Object,
-}
-
-/// A key that an object is asked for, and what may stand there.
-#[derive(Clone, Copy)]
-pub struct Field {
-    pub name: &'static str,
-    pub form: Form,
 }
 
 /// What stands somewhere in a document.

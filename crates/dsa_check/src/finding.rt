@@ -1,9 +1,8 @@
 //! What is told of a document.
 
-use crate::fields::{Form, Found, Key};
-use crate::kinds::StepKind;
+use crate::fields::{Found, Key};
 use crate::syntax::Syntax;
-use dsa_scenario::ScenarioFault;
+use dsa_scenario::{Form, ScenarioFault, StepKind};
 
 /// A fault of a document, with all that is known of it.
 #[derive(Drop)]

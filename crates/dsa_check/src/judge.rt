@@ -10,13 +10,15 @@ ghost use Rattle.dsa_check.specs.Flaws.{IsOpenFrom};
 ghost use Rattle.dsa_check.specs.Judgement.{faults_told, AreFaultsOf, IsJudged, head_faults, step_items_of, caps_at, capacity_at, fault_of_step, bad_steps, caps_faults, capacity_faults, faults_of_value};
 
 use crate::finding::{Finding, Place, Reason};
-use crate::kinds::MAX_CAPACITY;
 use crate::places::{START, Spot};
-use crate::reasons::{capacity_reasons, caps_reasons, document_reasons, kind_of, step_reasons};
+use crate::reasons::{capacity_reasons, caps_reasons, document_reasons, step_reasons};
 use crate::scan::{Extent, Flaw, is_json, scan_text};
 use crate::syntax::{end_of, syntax_of};
+use crate::tables::MAX_CAPACITY;
 use dsa_regs::check_caps;
-use dsa_scenario::{ScenarioFault, parse_action, parse_caps, parse_head, parse_json, u64_field};
+use dsa_scenario::{
+    ScenarioFault, kind_of, parse_action, parse_caps, parse_head, parse_json, u64_field,
+};
 use serde_json::Value;
 use std::alloc::{AllocError, Global};
 use std::str;

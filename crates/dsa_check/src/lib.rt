@@ -10,7 +10,6 @@ mod fields;
 mod finding;
 pub mod flaw_rows;
 mod judge;
-mod kinds;
 mod near;
 pub mod near_rows;
 mod places;
@@ -22,9 +21,8 @@ mod syntax;
 pub mod tables;
 
 pub use checking::Check;
-pub use fields::{Field, Form, Found, Key};
+pub use fields::{Found, Key};
 pub use finding::{Finding, Place, Reason};
 pub use judge::judge_document;
-pub use kinds::StepKind;
 pub use report::report_lines;
 pub use syntax::{Piece, Syntax, Wanted};

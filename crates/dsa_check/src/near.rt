@@ -3,11 +3,10 @@
 ghost use Rattle.std.specs.Prelude.{◌≡◌, ◌<◌, [], ◌∷◌, bytes_eq, length, map, true, IfOk, IfSome, option_map, string_bytes, None};
 ghost use Rattle.serde_json.specs.View.{view};
 ghost use Rattle.dsa_check.specs.Reasons.{is_asked, letters_of, begins_with, distance_of, stray_distance, is_below, near_key, near_kind, IsStrayKey};
-ghost use Rattle.dsa_check.specs.Steps.{row_of_field};
+ghost use Rattle.dsa_scenario.specs.Fields.{row_of_field};
 
-use crate::fields::Field;
-use crate::kinds::{KINDS, StepKind};
 use crate::syntax::is_plain;
+use dsa_scenario::{Field, KINDS, StepKind};
 use serde_json::Value;
 use std::alloc::{AllocError, Global};
 use strsim::osa_distance;

@@ -6,10 +6,10 @@ ghost use Rattle.serde_json.specs.Data.{null, array, no_items};
 ghost use Rattle.dsa_scenario.specs.Worked.{object_of, step_of_kind};
 ghost use Rattle.dsa_check.specs.declared.fields.Key.{Key};
 ghost use Rattle.dsa_check.specs.declared.finding.Reason.TheVariants.{Missing, Misspelled, UnknownKind, NotUtf8};
-ghost use Rattle.dsa_check.specs.declared.kinds.StepKind.{StepKind};
-ghost use Rattle.dsa_check.specs.declared.kinds.StepKind.TheVariants.{Enqcmd, Movdir, Fetch, Start, Finish, Command, Poll, Clear};
+ghost use Rattle.dsa_scenario.specs.declared.actions.StepKind.{StepKind};
+ghost use Rattle.dsa_scenario.specs.declared.actions.StepKind.TheVariants.{Enqcmd, Movdir, Fetch, Start, Finish, Command, Poll, Clear};
 ghost use Rattle.dsa_check.specs.Reasons.{letters_of, edits_between, most_edits, few_edits, distance_by_edits, begins_with, distance_of, is_below, nearest_below, nearest, near_kind, keys_of, stray_distance, near_key, TellsNearKey, IsNoKind, IsKindReason};
-ghost use Rattle.dsa_check.specs.Steps.{rows_of_kind};
+ghost use Rattle.dsa_scenario.specs.Actions.{rows_of_kind};
 
 /// Letters and digits of names, and how many edits are between two.
 #[tactic(auto, unfolding(crate::specs::Worked::near_on_literals))]

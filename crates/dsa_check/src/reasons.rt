@@ -5,13 +5,15 @@ ghost use Rattle.serde_json.specs.View.{view};
 ghost use Rattle.serde_json.specs.Find.{get, as_str};
 ghost use Rattle.dsa_check.specs.Findings.{Appends, AreInCaps, AreDocumentReasons};
 ghost use Rattle.dsa_check.specs.Reasons.{digits_reason, text_reason, unfit_reason, is_unfit, is_plain, is_asked, IsStrayKey, IsReasonAt, AreReasonsAt, AreReasonsOf, IsKindReason, AreStepReasons};
-ghost use Rattle.dsa_check.specs.Steps.{row_of_field, kind_of, device_rows, history_rows};
+ghost use Rattle.dsa_scenario.specs.{Fields.{row_of_field}, Actions.{kind_of}};
+ghost use Rattle.dsa_check.specs.Tables.{device_rows, history_rows};
 
-use crate::fields::{Field, Form, Key, found_in, is_of};
+use crate::fields::{Key, found_in, is_of};
 use crate::finding::Reason;
-use crate::kinds::{CAPS, DEVICE_CAPS, DOCUMENT, HISTORY_CAPACITY, StepKind, fields_of};
 use crate::near::{near_key, near_kind};
 use crate::syntax::is_plain;
+use crate::tables::{CAPS, DEVICE_CAPS, DOCUMENT, HISTORY_CAPACITY};
+use dsa_scenario::{Field, Form, kind_of};
 use serde_json::Value;
 use std::alloc::{AllocError, Global};
 
@@ -124,13 +126,6 @@ pub fn add_reasons(
     Ok(())
 }
 
-/// The kind of a step object.
-pub fn kind_of(step: &Value) -> Option<StepKind>
-    ensures { result ≡ kind_of (view step.now) }
-{
-    StepKind::parse(step.get("do")?.as_str()?)
-}
-
 // The name, where it can be told as it stands.
 fn plain_name(alloc: Global, name: &str) -> Result<Option<String>, AllocError>
     ensures plain { IfOk result (λ told. is_some told ≡ is_plain name.now) }
@@ -175,7 +170,7 @@ pub fn step_reasons(alloc: Global, step: &Value) -> Result<Vec<Reason>, AllocErr
         reasons.push(Reason::NoObject { found })?;
     } else {
         match kind_of(step) {
-            Some(kind) => add_reasons(alloc, step, fields_of(kind), false, &mut reasons)?,
+            Some(kind) => add_reasons(alloc, step, kind.fields(), false, &mut reasons)?,
             None => reasons.push(kind_reason(alloc, step)?)?,
         }
     }

@@ -4,12 +4,11 @@ ghost use Rattle.std.specs.Prelude.{◌≡◌, ◌++◌, IfOk, codes, decimal, s
 ghost use Rattle.dsa_event_text.specs.Added.{Adds};
 ghost use Rattle.dsa_check.specs.Lines.{digits_text, key_text, whole_range_text, form_text, found_text, bound_text, wanted_of, piece_text, closing_text, wanted_text, syntax_text, near_kind_text, no_kind_text, reason_text, known_number_text, step_text, fault_part_text, place_text, line_of_finding, bare_line, finding_text, report_text};
 
-use crate::fields::{Form, Found, Key};
+use crate::fields::{Found, Key};
 use crate::finding::{Finding, Reason};
-use crate::kinds::StepKind;
 use crate::syntax::{Piece, Syntax, Wanted};
 use dsa_event_text::{Added, add_count};
-use dsa_scenario::ScenarioFault;
+use dsa_scenario::{Form, KIND_NAMES, ScenarioFault, StepKind};
 use std::alloc::{AllocError, Global};
 use std::fmt::Write;
 
@@ -203,10 +202,7 @@ fn add_kind(text: &mut String, name: &Option<String>, near: Option<StepKind>) ->
 {
     match (name, near) {
         (Some(name), Some(kind)) => add_near_kind(text, name.as_str(), kind),
-        (Some(name), None) => write!(
-            text,
-            "\"do\" is \"{name}\", none of queue, group, enqcmd, movdir, dispatch, fetch, start, finish, command, poll and clear"
-        ),
+        (Some(name), None) => { write!(text, "\"do\" is \"{name}\", none of {}", KIND_NAMES) }
         (None, _) => text.push_str("\"do\" names no kind of step"),
     }
 }

@@ -6,21 +6,22 @@ ghost use Rattle.serde_json.specs.Data.{Data, depth, null, boolean, string, arra
 ghost use Rattle.dsa_scenario.specs.declared.faults.ScenarioFault.TheVariants.{NotJson, BadDocument, BadStep, BadCaps, BadCapacity, Read};
 ghost use Rattle.dsa_scenario.specs.Worked.{whole, object_of, fields_without, changed, step_of_kind, some_caps, poll_step, queue_step, group_step, enqcmd_step, dispatch_step, start_step, finish_step, command_step, clear_step, no_caps_text, document_text};
 ghost use Rattle.dsa_check.specs.declared.fields.Key.{Key};
-ghost use Rattle.dsa_check.specs.declared.fields.Form.TheVariants as form;
+ghost use Rattle.dsa_scenario.specs.declared.fields.Form.TheVariants as form;
 ghost use Rattle.dsa_check.specs.declared.fields.Found.TheVariants as found;
 ghost use Rattle.dsa_check.specs.declared.finding.{Finding.{Finding}, Reason.{Reason}};
 ghost use Rattle.dsa_check.specs.declared.finding.Reason.TheVariants.{Missing, Misspelled, Unfit, OddDigits, ManyDigits, NoDigit, NoObject, UnknownKind, NotUtf8, Syntax};
-ghost use Rattle.dsa_check.specs.declared.kinds.StepKind.TheVariants.{Queue, Group, Enqcmd, Movdir, Dispatch, Fetch, Start, Finish, Command, Poll, Clear};
+ghost use Rattle.dsa_scenario.specs.declared.actions.StepKind.TheVariants.{Queue, Enqcmd, Fetch, Finish, Poll};
 ghost use Rattle.dsa_check.specs.declared.syntax.Piece.TheVariants.{End, LineBreak, Tab, Control, Character, ByteOrderMark, Told, Text, Number, Word};
 ghost use Rattle.dsa_check.specs.declared.syntax.Syntax.TheVariants.{TooDeep, CommaBefore, Comment, Unwanted};
 ghost use Rattle.dsa_check.specs.declared.syntax.Wanted.TheVariants as wanted;
 ghost use Rattle.dsa_check.specs.Findings.{AreDocumentReasons, IsNowhere, IsFindingOf, IsFindingIn, TellsWhy, Appends, AppendsAll};
 ghost use Rattle.dsa_check.specs.Judgement.{capacity_at, faults_of_value, fault_of_head, fault_of_step, caps_faults, capacity_faults, AreFaultsOf, IsRight};
 ghost use Rattle.dsa_check.specs.Check.{IsCheckReportOf};
-ghost use Rattle.dsa_check.specs.Lines.{kind_text, key_text, form_text, found_text, wanted_of, piece_text, wanted_text, syntax_text, no_kind_text, reason_text, fault_part_text, place_text, line_of_finding, bare_line};
+ghost use Rattle.dsa_check.specs.Lines.{key_text, form_text, found_text, wanted_of, piece_text, wanted_text, syntax_text, no_kind_text, reason_text, fault_part_text, place_text, line_of_finding, bare_line};
 ghost use Rattle.dsa_check.specs.Places.{line_after, column_after, IsSpot, BeginJson, IsShallow, AreTextOf, BeginsOnLine};
 ghost use Rattle.dsa_check.specs.Reasons.{is_asked, is_between, is_of_form, is_plain, has_caps, is_step, kind_row, found_number, found_of, digits_reason, text_reason, IsReasonOf, IsStrayKey, HasStrayKey, IsKindReason, AreReasonsOf, AreStepReasons};
-ghost use Rattle.dsa_check.specs.Steps.{bits, rows_of_kind, kinds, kind_named, kind_of, document_rows, caps_rows, device_rows, history_rows};
+ghost use Rattle.dsa_scenario.specs.{Fields.{bits}, Actions.{kinds, rows_of_kind, names_text}};
+ghost use Rattle.dsa_check.specs.Tables.{document_rows, caps_rows, device_rows, history_rows};
 ghost use Rattle.dsa_check.specs.Worked.{right_document, unfit_keys, unfit_keys_of, key_of_caps, key_of_a_step, found_at, document_of_slots, document_of_null, document_without_slots, right_text};
 
 /// Each part of a document has its fault; the others are looked at also where one is missing.
@@ -61,17 +62,6 @@ pub fn faults_in_order()
         ∷ (codes "steps", array (item null no_items))
         ∷ []))
         ≡ BadStep 0 ∷ BadCaps ∷ BadCapacity ∷ [] }
-{}
-
-/// Names of kinds, and steps that name one.
-pub fn kinds_of_steps()
-    ensures named { kind_named (codes "enqcmd") ≡ Some Enqcmd }
-    ensures longer { kind_named (codes "polls") ≡ None }
-    ensures capital { kind_named (codes "Poll") ≡ None }
-    ensures empty { kind_named [] ≡ None }
-    ensures step { kind_of (object_of poll_step) ≡ Some Poll }
-    ensures number { kind_of (object_of ((codes "do", whole 1) ∷ [])) ≡ None }
-    ensures no_object { kind_of (string (codes "poll")) ≡ None }
 {}
 
 /// The keys of a step whose value is not allowed: none for a valid step. For steps with digits a
@@ -198,43 +188,6 @@ pub fn reasons_that_are_not_so()
         (UnknownKind None (Some Poll))
         → ⊥ }
     ensures known { IsKindReason (object_of poll_step) (UnknownKind None None) → ⊥ }
-{}
-
-/// All kinds of steps with their names, and the keys of each.
-pub fn tables_of_steps()
-    ensures kinds { kinds
-        ≡ Queue ∷ Group ∷ Enqcmd ∷ Movdir ∷ Dispatch ∷ Fetch ∷ Start ∷ Finish ∷ Command ∷ Poll
-        ∷ Clear
-        ∷ [] }
-    ensures names { map kind_text kinds
-        ≡ codes "queue" ∷ codes "group" ∷ codes "enqcmd" ∷ codes "movdir" ∷ codes "dispatch"
-        ∷ codes "fetch" ∷ codes "start" ∷ codes "finish" ∷ codes "command" ∷ codes "poll"
-        ∷ codes "clear" ∷ [] }
-    ensures queue { rows_of_kind Queue
-        ≡ (codes "queue", form.Whole 0 65535) ∷ (codes "size", form.Whole 0 65535)
-        ∷ (codes "threshold", form.Whole 0 65535) ∷ (codes "dedicated", form.Truth)
-        ∷ (codes "priority", form.Whole 0 255) ∷ (codes "pasid", form.Whole 0 4294967295)
-        ∷ (codes "batch", form.Whole 0 255) ∷ (codes "xfer", form.Whole 0 255) ∷ [] }
-    ensures group { rows_of_kind Group
-        ≡ (codes "group", form.Whole 0 65535) ∷ (codes "queues", form.Whole 0 18446744073709551615)
-        ∷ (codes "engines", form.Whole 0 18446744073709551615)
-        ∷ (codes "reserved", form.Whole 0 65535) ∷ (codes "allowed", form.Whole 0 65535) ∷ [] }
-    ensures enqcmd { rows_of_kind Enqcmd
-        ≡ (codes "client", form.Whole 0 65535) ∷ (codes "queue", form.Whole 0 65535)
-        ∷ (codes "limited", form.Truth) ∷ (codes "pasid", form.Whole 0 4294967295)
-        ∷ (codes "desc", form.Digits) ∷ [] }
-    ensures movdir { rows_of_kind Movdir
-        ≡ (codes "client", form.Whole 0 65535) ∷ (codes "queue", form.Whole 0 65535)
-        ∷ (codes "limited", form.Truth) ∷ (codes "desc", form.Digits) ∷ [] }
-    ensures engines { map rows_of_kind (Dispatch ∷ Fetch ∷ Start ∷ Finish ∷ [])
-        ≡ ((codes "engine", form.Whole 0 65535) ∷ [])
-        ∷ ((codes "engine", form.Whole 0 65535) ∷ (codes "desc", form.Digits) ∷ [])
-        ∷ ((codes "engine", form.Whole 0 65535) ∷ [])
-        ∷ ((codes "engine", form.Whole 0 65535) ∷ (codes "name", form.Whole 0 4294967295)
-        ∷ (codes "fault", form.Truth) ∷ [])
-        ∷ [] }
-    ensures administrator { map rows_of_kind (Command ∷ Poll ∷ Clear ∷ [])
-        ≡ ((codes "word", form.Whole 0 4294967295) ∷ []) ∷ [] ∷ [] ∷ [] }
 {}
 
 /// The keys of a document, of its caps, of a device and of a history.
@@ -389,9 +342,8 @@ pub fn texts_of_reasons()
         ++ (string_bytes text ++ codes "\", which is no kind of step, but \"poll\" is") }
     ensures unknown { (text : String Global)
         → no_kind_text (Some text) None
-        ≡ codes "\"do\" is \"" ++ (string_bytes text
-        ++ (codes "\", none of queue, group, enqcmd, movdir, dispatch, fetch, start, finish, "
-        ++ codes "command, poll and clear")) }
+        ≡ codes "\"do\" is \""
+        ++ (string_bytes text ++ (codes "\", none of " ++ names_text kinds)) }
 {}
 
 /// Where a fault is, in words, and its line.

@@ -239,67 +239,44 @@ pub fn runs_refused()
 /// The history of two clients, which submit five times each, and three engines, in seven turns
 /// each.
 pub fn history_of_a_run()
-    ensures legal { (totals : Totals) (run : AreTotalsOf (load 2 3 5 7) totals)
-        → is_legal (caps_for 3) run.history ≡ true }
-    ensures replayed { (totals : Totals) (run : AreTotalsOf (load 2 3 5 7) totals)
-        → replay (caps_for 3) run.history ≡ Some run.last }
-    ensures within { (totals : Totals) (run : AreTotalsOf (load 2 3 5 7) totals)
-        → length run.history ≤ 46 }
-    ensures setup { (totals : Totals) (run : AreTotalsOf (load 2 3 5 7) totals)
-        → steps_of_actor run.history Admin ≡ setup_steps 3 }
-    ensures setup_first { (totals : Totals) (run : AreTotalsOf (load 2 3 5 7) totals)
-        → take 4 run.history ≡ setup_steps 3 }
-    ensures submitted { (totals : Totals) (run : AreTotalsOf (load 2 3 5 7) totals)
-        → (c : ℕ) → c < 2 → All (λ step. step.event ≡ submission_of c)
-        (steps_of_actor run.history (Client c)) }
-    ensures counted { (totals : Totals) (run : AreTotalsOf (load 2 3 5 7) totals)
-        → totals ≡ totals_of run.history (held_count run.last.work.content) }
-    ensures balanced { (totals : Totals) (run : AreTotalsOf (load 2 3 5 7) totals)
-        → totals.accepted + totals.fetched ≡ totals.done + totals.lost + totals.held }
-    ensures accepted { (totals : Totals) (run : AreTotalsOf (load 2 3 5 7) totals)
-        → totals.accepted ≤ 10 }
+    ensures run { (totals : Totals) (run : AreTotalsOf (load 2 3 5 7) totals)
+        → (is_legal (caps_for 3) run.history ≡ true)
+        × (replay (caps_for 3) run.history ≡ Some run.last)
+        × (length run.history ≤ 46)
+        × (steps_of_actor run.history Admin ≡ setup_steps 3)
+        × (take 4 run.history ≡ setup_steps 3)
+        × (totals ≡ totals_of run.history (held_count run.last.work.content))
+        × (totals.accepted + totals.fetched ≡ totals.done + totals.lost + totals.held)
+        × (totals.accepted ≤ 10)
+        × (1 ≤ totals.accepted) }
     ensures accepted_of_one_client { (totals : Totals) (run : AreTotalsOf (load 1 3 5 7) totals)
         → totals.accepted ≤ 5 }
-    ensures accepted_one { (totals : Totals) (run : AreTotalsOf (load 2 3 5 7) totals)
-        → 1 ≤ totals.accepted }
-    ensures client_runs { (totals : Totals) (run : AreTotalsOf (load 2 3 5 7) totals)
-        → (c : ℕ) → c < 2 → RanAsClient (caps_for 3) 46 (load 2 3 5 7) c
+    ensures clients { (totals : Totals) (run : AreTotalsOf (load 2 3 5 7) totals) (c : ℕ) → c < 2
+        → All (λ step. step.event ≡ submission_of c) (steps_of_actor run.history (Client c))
+        × RanAsClient (caps_for 3) 46 (load 2 3 5 7) c
         (record { number = c; receipts = steps_of_actor run.history (Client c) }) }
-    ensures engine_runs { (totals : Totals) (run : AreTotalsOf (load 2 3 5 7) totals)
-        → (e : ℕ) → e < 3 → RanAsEngine (caps_for 3) 46 (load 2 3 5 7) e
+    ensures engines { (totals : Totals) (run : AreTotalsOf (load 2 3 5 7) totals) (e : ℕ) → e < 3
+        → RanAsEngine (caps_for 3) 46 (load 2 3 5 7) e
         (record { number = e; receipts = steps_of_actor run.history (Engine e) }) }
 {}
 
 /// What the seats have after such a run, and where there was nobody to run.
 pub fn seats_of_a_run()
     ensures nobody { HaveWorked (caps_for 3) 46 (load 0 0 5 7) [] [] (Some (setup_steps 0)) }
-    ensures client_count { (clients engines : List SeatLog) (admin : Option (List Step))
-        → HaveWorked (caps_for 1) 9 (load 2 3 5 7) clients engines admin → length clients ≡ 2 }
-    ensures engine_count { (clients engines : List SeatLog) (admin : Option (List Step))
-        → HaveWorked (caps_for 1) 9 (load 2 3 5 7) clients engines admin → length engines ≡ 3 }
-    ensures accepted { (clients engines : List SeatLog) (admin : Option (List Step))
+    ensures seats { (clients engines : List SeatLog) (admin : Option (List Step))
         → HaveWorked (caps_for 1) 9 (load 2 3 5 7) clients engines admin
-        → All (λ seat. total_accepted seat.receipts ≤ 5) clients }
-    ensures client_steps { (clients engines : List SeatLog) (admin : Option (List Step))
-        → HaveWorked (caps_for 1) 9 (load 2 3 5 7) clients engines admin
-        → All (λ seat. length seat.receipts ≤ 7) clients }
-    ensures engine_steps { (clients engines : List SeatLog) (admin : Option (List Step))
-        → HaveWorked (caps_for 1) 9 (load 2 3 5 7) clients engines admin
-        → All (λ seat. length seat.receipts ≤ 7) engines }
-    ensures numbers { (clients engines : List SeatLog) (admin : Option (List Step))
-        → HaveWorked (caps_for 1) 9 (load 2 3 5 7) clients engines admin
-        → (c : ℕ) (d : SeatLog) → c < 2 → (slice_index_or clients c d).number ≡ c }
-    ensures submitted { (clients engines : List SeatLog) (admin : Option (List Step))
+        → (length clients ≡ 2)
+        × (length engines ≡ 3)
+        × All (λ seat. total_accepted seat.receipts ≤ 5) clients
+        × All (λ seat. length seat.receipts ≤ 7) clients
+        × All (λ seat. length seat.receipts ≤ 7) engines
+        × (receipts_in admin ≡ setup_steps 3) }
+    ensures clients { (clients engines : List SeatLog) (admin : Option (List Step))
         → HaveWorked (caps_for 1) 9 (load 2 3 5 7) clients engines admin
         → (c : ℕ) (d : SeatLog) → c < 2
-        → All (λ step. step.event ≡ submission_of c) (slice_index_or clients c d).receipts }
-    ensures setup { (clients engines : List SeatLog) (admin : Option (List Step))
-        → HaveWorked (caps_for 1) 9 (load 2 3 5 7) clients engines admin
-        → receipts_in admin ≡ setup_steps 3 }
-    ensures client_runs { (clients engines : List SeatLog) (admin : Option (List Step))
-        → HaveWorked (caps_for 1) 9 (load 2 3 5 7) clients engines admin
-        → (c : ℕ) (d : SeatLog) → c < 2
-        → RanAsClient (caps_for 1) 9 (load 2 3 5 7) c (slice_index_or clients c d) }
+        → ((slice_index_or clients c d).number ≡ c)
+        × All (λ step. step.event ≡ submission_of c) (slice_index_or clients c d).receipts
+        × RanAsClient (caps_for 1) 9 (load 2 3 5 7) c (slice_index_or clients c d) }
     ensures engine_runs { (clients engines : List SeatLog) (admin : Option (List Step))
         → HaveWorked (caps_for 1) 9 (load 2 3 5 7) clients engines admin
         → (e : ℕ) (d : SeatLog) → e < 3
@@ -308,20 +285,14 @@ pub fn seats_of_a_run()
 
 /// What the workers of such a run did: client 4 submits five times under PASID 5.
 pub fn runs_of_workers()
-    ensures script { (seat : SeatLog) (ran : RanAsClient (caps_for 1) 9 (load 2 3 5 7) 4 seat)
-        → length ran.0 ≡ 5 }
-    ensures moves { (seat : SeatLog) (ran : RanAsClient (caps_for 1) 9 (load 2 3 5 7) 4 seat)
-        → All (Submits 5) ran.0 }
     ensures client { (seat : SeatLog) (ran : RanAsClient (caps_for 1) 9 (load 2 3 5 7) 4 seat)
-        → RunsClient (caps_for 1) 9 ran.0 7 (fresh 4) seat ran.1 }
-    ensures client_found_room { (seat : SeatLog)
-        (ran : RanAsClient (caps_for 1) 9 (load 2 3 5 7) 4 seat)
-        → ran.1.ended ≢ HistoryFull }
+        → (length ran.0 ≡ 5)
+        × All (Submits 5) ran.0
+        × RunsClient (caps_for 1) 9 ran.0 7 (fresh 4) seat ran.1
+        × (ran.1.ended ≢ HistoryFull) }
     ensures engine { (seat : SeatLog) (ran : RanAsEngine (caps_for 1) 9 (load 2 3 5 7) 4 seat)
-        → RunsEngine (caps_for 1) 9 engine_script 7 (fresh 4) seat ran.0 }
-    ensures engine_found_room { (seat : SeatLog)
-        (ran : RanAsEngine (caps_for 1) 9 (load 2 3 5 7) 4 seat)
-        → ran.0.ended ≢ HistoryFull }
+        → RunsEngine (caps_for 1) 9 engine_script 7 (fresh 4) seat ran.0
+        × (ran.0.ended ≢ HistoryFull) }
 {}
 
 /// The totals of a run that were all written, and those of which only the first bytes were.
@@ -329,43 +300,35 @@ pub fn runs_of_workers()
 pub fn totals_written()
     ensures all { (totals : Totals) → AreTotalsOf (load 1 2 3 4) totals
         → AreTotalsWritten [] (Some (codes "k")) (Some (codes "k" ++ totals_text totals)) }
-    ensures numbers { (rows : List Row) (old new : Option (List ℕ))
-        (are : AreTotalsWritten rows old new) → AreNumbersOf rows are.0 }
-    ensures in_range { (rows : List Row) (old new : Option (List ℕ))
-        (are : AreTotalsWritten rows old new) → IsInRange are.0 }
-    ensures of_a_run { (rows : List Row) (old new : Option (List ℕ))
-        (are : AreTotalsWritten rows old new) → AreTotalsOf are.0 are.1 }
-    ensures appended { (rows : List Row) (old new : Option (List ℕ))
-        (are : AreTotalsWritten rows old new) → Appends old new (totals_text are.1) }
+    ensures written { (rows : List Row) (old new : Option (List ℕ))
+        (are : AreTotalsWritten rows old new)
+        → AreNumbersOf rows are.0
+        × IsInRange are.0
+        × AreTotalsOf are.0 are.1
+        × Appends old new (totals_text are.1) }
     ensures first_bytes { (totals : Totals) → AreTotalsOf (load 1 2 3 4) totals
         → 3 < length (totals_text totals)
         → AreTotalsCutShort [] (Some (codes "k"))
         (Some (codes "k" ++ take 3 (totals_text totals))) }
-    ensures cut_numbers { (rows : List Row) (old new : Option (List ℕ))
-        (are : AreTotalsCutShort rows old new) → AreNumbersOf rows are.0 }
-    ensures cut_in_range { (rows : List Row) (old new : Option (List ℕ))
-        (are : AreTotalsCutShort rows old new) → IsInRange are.0 }
-    ensures cut_of_a_run { (rows : List Row) (old new : Option (List ℕ))
-        (are : AreTotalsCutShort rows old new) → AreTotalsOf are.0 are.1 }
-    ensures cut_short { (rows : List Row) (old new : Option (List ℕ))
-        (are : AreTotalsCutShort rows old new) → are.2 < length (totals_text are.1) }
-    ensures cut_appended { (rows : List Row) (old new : Option (List ℕ))
+    ensures cut { (rows : List Row) (old new : Option (List ℕ))
         (are : AreTotalsCutShort rows old new)
-        → Appends old new (take are.2 (totals_text are.1)) }
+        → AreNumbersOf rows are.0
+        × IsInRange are.0
+        × AreTotalsOf are.0 are.1
+        × (are.2 < length (totals_text are.1))
+        × Appends old new (take are.2 (totals_text are.1)) }
 {}
 
 /// A dialogue that was served: the reader gave all of it, and the answers were written.
 pub fn dialogue_served()
     ensures served { (input output : List ℕ) → AnswersAll input output
         → IsServed (Some input) (Some []) (Some (codes "k")) (Some (codes "k" ++ output)) }
-    ensures given { (had left held holds : Option (List ℕ))
-        (served : IsServed had left held holds) → Consumes had left served.0 }
-    ensures to_its_end { (had left held holds : Option (List ℕ))
-        → IsServed had left held holds → IsAtEnd left }
-    ensures answered { (had left held holds : Option (List ℕ))
-        (served : IsServed had left held holds) → AnswersAll served.0 served.1 }
-    ensures written { (had left held holds : Option (List ℕ))
-        (served : IsServed had left held holds) → Appends held holds served.1 }
+    ensures all { (had left held holds : Option (List ℕ))
+        (served : IsServed had left held holds)
+        → Consumes had left served.0
+        × IsAtEnd left
+        × AnswersAll served.0 served.1
+        × Appends held holds served.1 }
     ensures more_to_read { ¬ IsServed (Some (codes "ab")) (Some (codes "b")) None None }
     ensures given_back { ¬ IsServed (Some []) (Some (codes "b")) None None }
 {}
@@ -383,20 +346,16 @@ pub fn reports_written()
     ensures drawing { (bytes text : List ℕ) → IsDrawingOf bytes text → length bytes ≤ 1_048_576
         → IsReportWritten (codes "draw", []) None (Some bytes) (Some []) (Some (codes "k"))
         (Some (codes "k" ++ text)) }
-    ensures asked { (found : Text × List Row) (had left held holds : Option (List ℕ))
-        (is : IsReportWritten found None had left held holds) → IsAskedBy found is.0 }
     ensures reported { (found : Text × List Row) (had left held holds : Option (List ℕ))
         (is : IsReportWritten found None had left held holds)
-        → IsReported is.0 None had left held holds }
+        → IsAskedBy found is.0 × IsReported is.0 None had left held holds }
     ensures drawing_cut { (bytes text : List ℕ)
         → IsDrawingOf bytes text → length bytes ≤ 1_048_576 → 3 < length text
         → IsReportCut (codes "draw", []) (Some bytes) (Some []) (Some (codes "k"))
         (Some (codes "k" ++ take 3 text)) }
-    ensures cut_asked { (found : Text × List Row) (had left held holds : Option (List ℕ))
-        (is : IsReportCut found had left held holds) → IsAskedBy found is.0 }
-    ensures cut_reported { (found : Text × List Row) (had left held holds : Option (List ℕ))
+    ensures cut { (found : Text × List Row) (had left held holds : Option (List ℕ))
         (is : IsReportCut found had left held holds)
-        → IsReportCutShort is.0 had left held holds }
+        → IsAskedBy found is.0 × IsReportCutShort is.0 had left held holds }
 {}
 
 /// The commands that ask for a report.
@@ -440,14 +399,11 @@ pub fn numbers_of_options()
     ensures many_engines { AreNumbersOf (option_row (codes "engines") (codes "9")) (load 2 3 5 7) }
     ensures much_each { AreNumbersOf (option_row (codes "each") (codes "1001")) (load 2 3 5 7) }
     ensures many_turns { AreNumbersOf (option_row (codes "turns") (codes "40001")) (load 2 3 5 7) }
-    ensures clients { (rows : List Row) (asked : Workload) → AreNumbersOf rows asked
-        → IsNumberOf rows (codes "clients") 16 asked.clients }
-    ensures engines { (rows : List Row) (asked : Workload) → AreNumbersOf rows asked
-        → IsNumberOf rows (codes "engines") 8 asked.engines }
-    ensures each { (rows : List Row) (asked : Workload) → AreNumbersOf rows asked
-        → IsNumberOf rows (codes "each") 1_000 asked.each }
-    ensures turns { (rows : List Row) (asked : Workload) → AreNumbersOf rows asked
-        → IsNumberOf rows (codes "turns") 40_000 asked.turns }
+    ensures all { (rows : List Row) (asked : Workload) → AreNumbersOf rows asked
+        → IsNumberOf rows (codes "clients") 16 asked.clients
+        × IsNumberOf rows (codes "engines") 8 asked.engines
+        × IsNumberOf rows (codes "each") 1_000 asked.each
+        × IsNumberOf rows (codes "turns") 40_000 asked.turns }
 {}
 
 /// The scripts of two clients and of engines.

@@ -1,19 +1,15 @@
 -- Documents ask for the end of an entry by its name.
-use Rattle.dsa_book.specs.declared.event.Event.TheVariants as event
-use Rattle.std.proofs.Common.{◌≡◌, ℕ, zero, suc, Bool, true, false, List, [], ◌∷◌, Option, Some, None, ap}
+use Rattle.dsa_scenario.specs.declared.actions.StepKind.TheVariants as kind
+use Rattle.std.proofs.Common.{◌≡◌, ℕ, zero, suc, List, [], ◌∷◌, Option, Some, None, ap}
 use Rattle.std.proofs.Common.{subst, take, Result, Ok, Err}
 use Rattle.std.proofs.lemmas.Option.{same_Some}
-use Rattle.std.specs.Prelude.{◌^◌, codes, bytes_eq, if◌then◌else◌}
 use Rattle.serde_json.specs.Data.{Data}
 use Rattle.dsa_regs.specs.declared.{Command.{Command}, Fault.{Fault}}
 use Rattle.dsa_regs.specs.Command.{command_of}
-use Rattle.dsa_scenario.specs.declared.actions.Action.{Action, TheVariants.{Ask, Finish}}
-use Rattle.dsa_book.specs.declared.event.Kind.TheVariants.{Enqcmd, Movdir64b}
-use Rattle.dsa_scenario.specs.Fields.{◌>>=◌, whole_of, wholes_of, truth_of, text_of}
-use Rattle.dsa_scenario.specs.Actions.{action_of, action_by, action_of_command, queue_config_of, group_config_of}
-use Rattle.dsa_scenario.specs.Actions.{desc_of, portal_of_limited, outcome_of_fault, queue_action_of, group_action_of}
-use Rattle.dsa_scenario.specs.Actions.{enqcmd_action_of, movdir_action_of, dispatch_action_of, fetch_action_of}
-use Rattle.dsa_scenario.specs.Actions.{start_action_of, finish_action_of, command_action_of}
+use Rattle.dsa_scenario.specs.declared.actions.{Action.{Action}, StepKind.{StepKind}}
+use Rattle.dsa_scenario.specs.Fields.{◌>>=◌, Row, Reading, reading_at, Maker, made_of}
+use Rattle.dsa_scenario.specs.Actions.{action_of_command, KindRow, kind_row, row_of_kind, asked_by, kind_of, action_by}
+use Rattle.dsa_scenario.specs.Actions.{action_of}
 use Rattle.dsa_conform.specs.{Seen.{Seen, seen_of, observation_of}, Run.{AreRead}, Ways.{AreNamedEnds, IsNamedEnd}}
 
 -- an action, if there is one, asks for no end but by a name
@@ -34,79 +30,33 @@ command_named : (c : Result Command Fault) → IsNamedEnd (action_of_command c)
 command_named (Ok command) = tt
 command_named (Err fault) = tt
 
-named1 : {A : Type 0} (o : Option A) (f : A → Action) → ((x : A) → IsNamedEnd (f x)) → NamedIn (o >>= λ x. Some (f x))
-unfolding NamedIn
-named1 None f h = tt
-named1 (Some x) f h = h x
+-- whatever is read by these rows, what is made of it asks for no end but by a name
+abbrev AreNamedBy : (rows : List Row) → Maker Action rows → Type 0
+AreNamedBy [] action = IsNamedEnd action
+AreNamedBy (row ∷ rows) made = (reading : Reading row.1) → AreNamedBy rows (made reading)
 
-named2 : {A B : Type 0} (o : Option A) (p : Option B) (f : A → B → Action) → ((x : A) → (y : B) → IsNamedEnd (f x y))
-    → NamedIn (o >>= λ x. p >>= λ y. Some (f x y))
+made_named : (rows : List Row) (made : Maker Action rows) (d : Data) → AreNamedBy rows made
+    → NamedIn (made_of rows made d)
 unfolding NamedIn
-named2 None p f h = tt
-named2 (Some x) p f h = named1 p (f x) (h x)
+made_named [] made d h = h
+made_named (row ∷ rows) made d h =
+    then_named (reading_at row.1 row.0 d) (λ reading. made_of {A = Action} rows (made reading) d)
+    (λ reading. made_named rows (made reading) d (h reading))
 
-named3 : {A B C : Type 0} (o : Option A) (p : Option B) (q : Option C) (f : A → B → C → Action)
-    → ((x : A) → (y : B) → (z : C) → IsNamedEnd (f x y z))
-    → NamedIn (o >>= λ x. p >>= λ y. q >>= λ z. Some (f x y z))
-unfolding NamedIn
-named3 None p q f h = tt
-named3 (Some x) p q f h = named2 p q (f x) (h x)
+abbrev AreNamedIn : KindRow → Type 0
+AreNamedIn (kind_row name rows asked) = AreNamedBy rows asked
 
-named4 : {A B C D : Type 0} (o : Option A) (p : Option B) (q : Option C) (r : Option D) (f : A → B → C → D → Action)
-    → ((x : A) → (y : B) → (z : C) → (w : D) → IsNamedEnd (f x y z w))
-    → NamedIn (o >>= λ x. p >>= λ y. q >>= λ z. r >>= λ w. Some (f x y z w))
-unfolding NamedIn
-named4 None p q r f h = tt
-named4 (Some x) p q r f h = named3 p q r (f x) (h x)
+row_named : (row : KindRow) (d : Data) → AreNamedIn row → NamedIn (asked_by row d)
+row_named (kind_row name rows asked) d h = made_named rows asked d h
 
--- by the tests of the kind in turn
-by_kind : (queue group enqcmd movdir dispatch fetch start finish command poll clear : Bool) (d : Data) → NamedIn (
-    if queue then queue_action_of d
-    else if group then group_action_of d
-    else if enqcmd then enqcmd_action_of d
-    else if movdir then movdir_action_of d
-    else if dispatch then dispatch_action_of d
-    else if fetch then fetch_action_of d
-    else if start then start_action_of d
-    else if finish then finish_action_of d
-    else if command then command_action_of d
-    else if poll then Some (Ask event.Poll)
-    else if clear then Some (Ask event.ClearError)
-    else None)
-unfolding NamedIn
-by_kind true _ _ _ _ _ _ _ _ _ _ d =
-    named2 (whole_of (2 ^ 16) (codes "queue") d) (queue_config_of d) (λ q c. Ask (event.WriteQueue q c)) (λ q c. tt)
-by_kind false true _ _ _ _ _ _ _ _ _ d =
-    named2 (whole_of (2 ^ 16) (codes "group") d) (group_config_of d) (λ g c. Ask (event.WriteGroup g c)) (λ g c. tt)
-by_kind false false true _ _ _ _ _ _ _ _ d =
-    named4 (wholes_of (2 ^ 16) (codes "client") (codes "queue") d) (truth_of (codes "limited") d)
-    (whole_of (2 ^ 32) (codes "pasid") d) (desc_of d)
-    (λ c l p desc. Ask (event.Submit c.0 c.1 (portal_of_limited l) (Enqcmd p) desc)) (λ c l p desc. tt)
-by_kind false false false true _ _ _ _ _ _ _ d =
-    named3 (wholes_of (2 ^ 16) (codes "client") (codes "queue") d) (truth_of (codes "limited") d) (desc_of d)
-    (λ c l desc. Ask (event.Submit c.0 c.1 (portal_of_limited l) Movdir64b desc)) (λ c l desc. tt)
-by_kind false false false false true _ _ _ _ _ _ d =
-    named1 (whole_of (2 ^ 16) (codes "engine") d) (λ e. Ask (event.Dispatch e)) (λ e. tt)
-by_kind false false false false false true _ _ _ _ _ d =
-    named2 (whole_of (2 ^ 16) (codes "engine") d) (desc_of d) (λ e desc. Ask (event.Fetch e desc)) (λ e desc. tt)
-by_kind false false false false false false true _ _ _ _ d =
-    named1 (whole_of (2 ^ 16) (codes "engine") d) (λ e. Ask (event.Start e)) (λ e. tt)
-by_kind false false false false false false false true _ _ _ d =
-    named3 (whole_of (2 ^ 16) (codes "engine") d) (whole_of (2 ^ 32) (codes "name") d) (truth_of (codes "fault") d)
-    (λ e n f. Finish e n (outcome_of_fault f)) (λ e n f. tt)
-by_kind false false false false false false false false true _ _ d =
-    named1 (whole_of (2 ^ 32) (codes "word") d) (λ w. action_of_command (command_of w))
-    (λ w. command_named (command_of w))
-by_kind false false false false false false false false false true _ d = tt
-by_kind false false false false false false false false false false true d = tt
-by_kind false false false false false false false false false false false d = tt
+-- each kind of steps
+each_named : (kind : StepKind) → AreNamedIn (row_of_kind kind)
+each_named kind.Command = λ word. command_named (command_of word)
+each_named _ = search
 
 action_named : (d : Data) → NamedIn (action_of d)
-action_named d = then_named (text_of (codes "do") d) (λ kind. action_by kind d) (λ kind.
-    by_kind (bytes_eq kind (codes "queue")) (bytes_eq kind (codes "group")) (bytes_eq kind (codes "enqcmd"))
-    (bytes_eq kind (codes "movdir")) (bytes_eq kind (codes "dispatch")) (bytes_eq kind (codes "fetch"))
-    (bytes_eq kind (codes "start")) (bytes_eq kind (codes "finish")) (bytes_eq kind (codes "command"))
-    (bytes_eq kind (codes "poll")) (bytes_eq kind (codes "clear")) d)
+action_named d =
+    then_named (kind_of d) (λ kind. action_by kind d) (λ kind. row_named (row_of_kind kind) d (each_named kind))
 
 pub observed_named : (d : Data) (o : Action × Seen) → observation_of d ≡ Some o → IsNamedEnd o.0
 observed_named d o h = at (action_of d) (action_named d) h

@@ -1,17 +1,19 @@
 -- Step objects: what each of them asks.
 use Rattle.dsa_book.specs.declared.event.Event.TheVariants as event
-use Rattle.std.specs.Prelude.{ℕ, ◌^◌, Bool, true, false, if◌then◌else◌, List, codes, bytes_eq, Option, Some, None}
-use Rattle.std.specs.Prelude.{Result, Ok, Err}
+use Rattle.dsa_scenario.specs.declared.fields.Form.TheVariants as form
+use Rattle.dsa_scenario.specs.declared.actions.StepKind.TheVariants as kind
+use Rattle.std.specs.Prelude.{ℕ, ◌^◌, Bool, true, false, List, [], ◌∷◌, ◌++◌, codes, bytes_eq, find, Option, Some}
+use Rattle.std.specs.Prelude.{option_and_then, Result, Ok, Err}
 use Rattle.serde_json.specs.Data.{Data}
-use Rattle.dsa_desc.specs.declared.{Descriptor.{Descriptor}, Outcome.{Outcome, TheVariants.{Success, PageFault}}}
+use Rattle.dsa_desc.specs.declared.{Outcome.{Outcome, TheVariants.{Success, PageFault}}}
 use Rattle.dsa_desc.specs.Descriptor.{read}
-use Rattle.dsa_regs.specs.declared.{Caps.{Caps}, QueueConfig.{QueueConfig}, GroupConfig.{GroupConfig}}
-use Rattle.dsa_regs.specs.declared.{Command.{Command}, Fault.{Fault}}
+use Rattle.dsa_regs.specs.declared.{Caps.{Caps}, Command.{Command}, Fault.{Fault}}
 use Rattle.dsa_regs.specs.Command.{command_of}
 use Rattle.dsa_book.specs.declared.event.Portal.{Portal, TheVariants.{Limited, Unlimited}}
 use Rattle.dsa_book.specs.declared.event.Kind.TheVariants.{Enqcmd, Movdir64b}
 use Rattle.dsa_scenario.specs.declared.actions.Action.{Action, TheVariants.{Ask, Finish, Refuse}}
-use Rattle.dsa_scenario.specs.Fields.{◌>>=◌, whole_of, wholes_of, truth_of, text_of, hex_bytes_of}
+use Rattle.dsa_scenario.specs.declared.actions.StepKind.{StepKind}
+use Rattle.dsa_scenario.specs.Fields.{◌>>=◌, whole_of, text_of, Row, bits, Maker, made_of}
 
 -- the object `caps` (profile)
 abbrev pub caps_of : Data → Option Caps
@@ -35,40 +37,6 @@ caps_of d = do
     max_xfer_shift = max_xfer_shift;
   })
 
--- the configuration of a queue (profile)
-abbrev pub queue_config_of : Data → Option QueueConfig
-queue_config_of d = do
-  (size, threshold) ← wholes_of (2 ^ 16) (codes "size") (codes "threshold") d
-  dedicated ← truth_of (codes "dedicated") d
-  priority ← whole_of (2 ^ 8) (codes "priority") d
-  pasid ← whole_of (2 ^ 32) (codes "pasid") d
-  (max_batch_shift, max_xfer_shift) ← wholes_of (2 ^ 8) (codes "batch") (codes "xfer") d
-  Some (record {
-    size = size;
-    threshold = threshold;
-    dedicated = dedicated;
-    priority = priority;
-    pasid = pasid;
-    max_batch_shift = max_batch_shift;
-    max_xfer_shift = max_xfer_shift;
-  })
-
--- the configuration of a group (profile)
-abbrev pub group_config_of : Data → Option GroupConfig
-group_config_of d = do
-  queues ← whole_of (2 ^ 64) (codes "queues") d
-  engines ← whole_of (2 ^ 64) (codes "engines") d
-  reserved ← whole_of (2 ^ 16) (codes "reserved") d
-  allowed ← whole_of (2 ^ 16) (codes "allowed") d
-  Some (record { queues = queues; engines = engines; reserved = reserved; allowed = allowed })
-
--- what the hexadecimal text `desc` says as a descriptor (profile)
-abbrev pub desc_of : Data → Option Descriptor
-desc_of d = do
-  text ← text_of (codes "desc") d
-  bytes ← hex_bytes_of text
-  Some (read bytes)
-
 -- the portal that `limited` says (profile)
 abbrev pub portal_of_limited : Bool → Portal
 portal_of_limited true = Limited
@@ -84,88 +52,133 @@ abbrev pub action_of_command : Result Command Fault → Action
 action_of_command (Ok command) = Ask (event.Issue command)
 action_of_command (Err fault) = Refuse fault
 
--- `queue`: a write of a queue's configuration (profile)
-abbrev pub queue_action_of : Data → Option Action
-queue_action_of d = do
-  queue ← whole_of (2 ^ 16) (codes "queue") d
-  config ← queue_config_of d
-  Some (Ask (event.WriteQueue queue config))
+-- ---- kinds of steps
 
--- `group`: a write of a group's configuration (profile)
-abbrev pub group_action_of : Data → Option Action
-group_action_of d = do
-  group ← whole_of (2 ^ 16) (codes "group") d
-  config ← group_config_of d
-  Some (Ask (event.WriteGroup group config))
+-- a kind: its name, its keys beside `do`, and what an object of it asks
+pub data KindRow : Type 0 where
+  kind_row : List ℕ → (rows : List Row) → Maker Action rows → KindRow
 
--- `enqcmd`: a submission by ENQCMD (profile)
-abbrev pub enqcmd_action_of : Data → Option Action
-enqcmd_action_of d = do
-  (client, queue) ← wholes_of (2 ^ 16) (codes "client") (codes "queue") d
-  limited ← truth_of (codes "limited") d
-  pasid ← whole_of (2 ^ 32) (codes "pasid") d
-  desc ← desc_of d
-  Some (Ask (event.Submit client queue (portal_of_limited limited) (Enqcmd pasid) desc))
+-- each kind (profile)
+abbrev pub row_of_kind : StepKind → KindRow
+-- a write of a queue's configuration
+row_of_kind kind.Queue = kind_row (codes "queue") (
+    (codes "queue", bits 16) ∷
+    (codes "size", bits 16) ∷
+    (codes "threshold", bits 16) ∷
+    (codes "dedicated", form.Truth) ∷
+    (codes "priority", bits 8) ∷
+    (codes "pasid", bits 32) ∷
+    (codes "batch", bits 8) ∷
+    (codes "xfer", bits 8) ∷ [])
+    (λ queue size threshold dedicated priority pasid batch xfer. Ask (event.WriteQueue queue (record {
+      size = size;
+      threshold = threshold;
+      dedicated = dedicated;
+      priority = priority;
+      pasid = pasid;
+      max_batch_shift = batch;
+      max_xfer_shift = xfer;
+    })))
+-- a write of a group's configuration
+row_of_kind kind.Group = kind_row (codes "group") (
+    (codes "group", bits 16) ∷
+    (codes "queues", bits 64) ∷
+    (codes "engines", bits 64) ∷
+    (codes "reserved", bits 16) ∷
+    (codes "allowed", bits 16) ∷ [])
+    (λ group queues engines reserved allowed. Ask (event.WriteGroup group (record {
+      queues = queues;
+      engines = engines;
+      reserved = reserved;
+      allowed = allowed;
+    })))
+-- a submission by ENQCMD
+row_of_kind kind.Enqcmd = kind_row (codes "enqcmd") (
+    (codes "client", bits 16) ∷
+    (codes "queue", bits 16) ∷
+    (codes "limited", form.Truth) ∷
+    (codes "pasid", bits 32) ∷
+    (codes "desc", form.Digits) ∷ [])
+    (λ client queue limited pasid desc.
+    Ask (event.Submit client queue (portal_of_limited limited) (Enqcmd pasid) (read desc)))
+-- a submission by MOVDIR64B
+row_of_kind kind.Movdir = kind_row (codes "movdir") (
+    (codes "client", bits 16) ∷
+    (codes "queue", bits 16) ∷
+    (codes "limited", form.Truth) ∷
+    (codes "desc", form.Digits) ∷ [])
+    (λ client queue limited desc.
+    Ask (event.Submit client queue (portal_of_limited limited) Movdir64b (read desc)))
+row_of_kind kind.Dispatch = kind_row (codes "dispatch") ((codes "engine", bits 16) ∷ [])
+    (λ engine. Ask (event.Dispatch engine))
+row_of_kind kind.Fetch = kind_row (codes "fetch") ((codes "engine", bits 16) ∷ (codes "desc", form.Digits) ∷ [])
+    (λ engine desc. Ask (event.Fetch engine (read desc)))
+row_of_kind kind.Start = kind_row (codes "start") ((codes "engine", bits 16) ∷ []) (λ engine. Ask (event.Start engine))
+-- the end of an entry, which is called by its name
+row_of_kind kind.Finish = kind_row (codes "finish") (
+    (codes "engine", bits 16) ∷
+    (codes "name", bits 32) ∷
+    (codes "fault", form.Truth) ∷ [])
+    (λ engine name fault. Finish engine name (outcome_of_fault fault))
+-- a word for the command register
+row_of_kind kind.Command = kind_row (codes "command") ((codes "word", bits 32) ∷ [])
+    (λ word. action_of_command (command_of word))
+row_of_kind kind.Poll = kind_row (codes "poll") [] (Ask event.Poll)
+row_of_kind kind.Clear = kind_row (codes "clear") [] (Ask event.ClearError)
 
--- `movdir`: a submission by MOVDIR64B (profile)
-abbrev pub movdir_action_of : Data → Option Action
-movdir_action_of d = do
-  (client, queue) ← wholes_of (2 ^ 16) (codes "client") (codes "queue") d
-  limited ← truth_of (codes "limited") d
-  desc ← desc_of d
-  Some (Ask (event.Submit client queue (portal_of_limited limited) Movdir64b desc))
+-- all kinds
+abbrev pub kinds : List StepKind
+kinds =
+    kind.Queue ∷ kind.Group ∷ kind.Enqcmd ∷ kind.Movdir ∷ kind.Dispatch ∷ kind.Fetch ∷ kind.Start ∷ kind.Finish
+    ∷ kind.Command ∷ kind.Poll ∷ kind.Clear ∷ []
 
--- `dispatch` (profile)
-abbrev pub dispatch_action_of : Data → Option Action
-dispatch_action_of d = do
-  engine ← whole_of (2 ^ 16) (codes "engine") d
-  Some (Ask (event.Dispatch engine))
+-- the name of a kind
+abbrev pub name_in : KindRow → List ℕ
+name_in (kind_row name rows asked) = name
 
--- `fetch` (profile)
-abbrev pub fetch_action_of : Data → Option Action
-fetch_action_of d = do
-  engine ← whole_of (2 ^ 16) (codes "engine") d
-  desc ← desc_of d
-  Some (Ask (event.Fetch engine desc))
+abbrev pub kind_text : StepKind → List ℕ
+kind_text kind = name_in (row_of_kind kind)
 
--- `start` (profile)
-abbrev pub start_action_of : Data → Option Action
-start_action_of d = do
-  engine ← whole_of (2 ^ 16) (codes "engine") d
-  Some (Ask (event.Start engine))
+-- its keys beside `do`
+abbrev pub rows_in : KindRow → List Row
+rows_in (kind_row name rows asked) = rows
 
--- `finish`: the end of an entry, which is called by its name (profile)
-abbrev pub finish_action_of : Data → Option Action
-finish_action_of d = do
-  engine ← whole_of (2 ^ 16) (codes "engine") d
-  name ← whole_of (2 ^ 32) (codes "name") d
-  fault ← truth_of (codes "fault") d
-  Some (Finish engine name (outcome_of_fault fault))
+abbrev pub rows_of_kind : StepKind → List Row
+rows_of_kind kind = rows_in (row_of_kind kind)
 
--- `command`: a word for the command register (profile)
-abbrev pub command_action_of : Data → Option Action
-command_action_of d = do
-  word ← whole_of (2 ^ 32) (codes "word") d
-  Some (action_of_command (command_of word))
+-- the kind of this name
+abbrev pub kind_named : List ℕ → Option StepKind
+kind_named name = find (λ kind. bytes_eq name (kind_text kind)) kinds
 
--- what a step object of this kind asks (profile)
-abbrev pub action_by : List ℕ → Data → Option Action
-action_by kind d =
-    if bytes_eq kind (codes "queue") then queue_action_of d
-    else if bytes_eq kind (codes "group") then group_action_of d
-    else if bytes_eq kind (codes "enqcmd") then enqcmd_action_of d
-    else if bytes_eq kind (codes "movdir") then movdir_action_of d
-    else if bytes_eq kind (codes "dispatch") then dispatch_action_of d
-    else if bytes_eq kind (codes "fetch") then fetch_action_of d
-    else if bytes_eq kind (codes "start") then start_action_of d
-    else if bytes_eq kind (codes "finish") then finish_action_of d
-    else if bytes_eq kind (codes "command") then command_action_of d
-    else if bytes_eq kind (codes "poll") then Some (Ask event.Poll)
-    else if bytes_eq kind (codes "clear") then Some (Ask event.ClearError)
-    else None
+-- between a name and those behind it
+abbrev pub between_names : List StepKind → List ℕ
+between_names [] = codes " and "
+between_names (kind ∷ more) = codes ", "
 
--- what a step object asks, by its text `do` (profile)
+abbrev pub names_behind : List StepKind → List ℕ
+names_behind [] = []
+names_behind (kind ∷ more) = between_names more ++ (kind_text kind ++ names_behind more)
+
+-- the names of some kinds, in words
+abbrev pub names_text : List StepKind → List ℕ
+names_text [] = []
+names_text (kind ∷ more) = kind_text kind ++ names_behind more
+
+-- ---- step objects
+
+-- the kind that the text `do` of a step object names (profile)
+abbrev pub kind_of : Data → Option StepKind
+kind_of d = option_and_then kind_named (text_of (codes "do") d)
+
+-- what an object of this kind asks, where it has each of its keys (profile)
+abbrev pub asked_by : KindRow → Data → Option Action
+asked_by (kind_row name rows asked) d = made_of rows asked d
+
+abbrev pub action_by : StepKind → Data → Option Action
+action_by kind d = asked_by (row_of_kind kind) d
+
+-- what a step object asks (profile)
 abbrev pub action_of : Data → Option Action
 action_of d = do
-  kind ← text_of (codes "do") d
+  kind ← kind_of d
   action_by kind d

@@ -1,16 +1,168 @@
-//! Step objects, and what they ask.
+//! The kinds of step objects, and what they ask.
 
-ghost use Rattle.std.specs.Prelude.{◌≡◌, ◌^◌, codes, option_map, option_and_then};
+ghost use Rattle.std.specs.Prelude.{◌≡◌, map, IfSome};
 ghost use Rattle.serde_json.specs.View.{view};
-ghost use Rattle.serde_json.specs.Find.{get};
 ghost use Rattle.dsa_regs.specs.Command.{command_of};
-ghost use Rattle.dsa_scenario.specs.Actions.{caps_of, queue_config_of, group_config_of, desc_of, portal_of_limited, outcome_of_fault, action_of_command, queue_action_of, group_action_of, enqcmd_action_of, movdir_action_of, dispatch_action_of, fetch_action_of, start_action_of, finish_action_of, command_action_of, action_of};
+ghost use Rattle.dsa_scenario.specs.Fields.{row_of_field};
+ghost use Rattle.dsa_scenario.specs.Actions.{caps_of, portal_of_limited, outcome_of_fault, action_of_command, kind_text, rows_of_kind, kind_named, kind_of, action_by, action_of};
 
-use crate::fields::{bytes_of_hex, truth_field, u8_field, u16_field, u32_field, u64_field};
+use crate::fields::{
+    Field, Form, digits_field, truth_field, u8_field, u16_field, u32_field, u64_field,
+};
+use crate::table_of;
 use dsa_book::{Event, Kind, Portal};
 use dsa_desc::{Descriptor, Outcome};
 use dsa_regs::{Caps, CommandWord, Fault, GroupConfig, QueueConfig};
 use serde_json::Value;
+
+/// A kind of step objects, by its text `do`.
+#[derive(Clone, Copy)]
+pub enum StepKind {
+    Queue,
+    Group,
+    Enqcmd,
+    Movdir,
+    Dispatch,
+    Fetch,
+    Start,
+    Finish,
+    Command,
+    Poll,
+    Clear,
+}
+
+/// All kinds.
+pub const KINDS: [StepKind; 11] = [
+    StepKind::Queue,
+    StepKind::Group,
+    StepKind::Enqcmd,
+    StepKind::Movdir,
+    StepKind::Dispatch,
+    StepKind::Fetch,
+    StepKind::Start,
+    StepKind::Finish,
+    StepKind::Command,
+    StepKind::Poll,
+    StepKind::Clear,
+];
+
+/// Their names, in words.
+pub const KIND_NAMES: &str =
+    "queue, group, enqcmd, movdir, dispatch, fetch, start, finish, command, poll and clear";
+
+// A whole number without sign of so many bits.
+macro_rules! bits {
+    ($bits:literal) => { Form::Whole { least: 0, most: u64::MAX >> (64 - $bits) } };
+}
+
+const QUEUE: [Field; 8] = table_of!(
+    "queue": bits!(16),
+    "size": bits!(16),
+    "threshold": bits!(16),
+    "dedicated": Form::Truth,
+    "priority": bits!(8),
+    "pasid": bits!(32),
+    "batch": bits!(8),
+    "xfer": bits!(8)
+);
+
+const GROUP: [Field; 5] = table_of!(
+    "group": bits!(16),
+    "queues": bits!(64),
+    "engines": bits!(64),
+    "reserved": bits!(16),
+    "allowed": bits!(16)
+);
+
+const ENQCMD: [Field; 5] = table_of!(
+    "client": bits!(16),
+    "queue": bits!(16),
+    "limited": Form::Truth,
+    "pasid": bits!(32),
+    "desc": Form::Digits
+);
+
+const MOVDIR: [Field; 4] = table_of!(
+    "client": bits!(16),
+    "queue": bits!(16),
+    "limited": Form::Truth,
+    "desc": Form::Digits
+);
+
+const ENGINE: [Field; 1] = table_of!("engine": bits!(16));
+
+const FETCH: [Field; 2] = table_of!("engine": bits!(16), "desc": Form::Digits);
+
+const FINISH: [Field; 3] = table_of!("engine": bits!(16), "name": bits!(32), "fault": Form::Truth);
+
+const COMMAND: [Field; 1] = table_of!("word": bits!(32));
+
+impl StepKind {
+    /// The kind of this name.
+    pub fn parse(name: &str) -> Option<StepKind>
+        ensures found { IfSome result (λ kind. kind_text kind ≡ name.now) }
+        ensures named { result ≡ kind_named name.now }
+    {
+        match name {
+            "queue" => Some(StepKind::Queue),
+            "group" => Some(StepKind::Group),
+            "enqcmd" => Some(StepKind::Enqcmd),
+            "movdir" => Some(StepKind::Movdir),
+            "dispatch" => Some(StepKind::Dispatch),
+            "fetch" => Some(StepKind::Fetch),
+            "start" => Some(StepKind::Start),
+            "finish" => Some(StepKind::Finish),
+            "command" => Some(StepKind::Command),
+            "poll" => Some(StepKind::Poll),
+            "clear" => Some(StepKind::Clear),
+            _ => None,
+        }
+    }
+
+    /// Its name.
+    pub fn name(self) -> &'static str
+        ensures { result.now ≡ kind_text self }
+    {
+        match self {
+            StepKind::Queue => "queue",
+            StepKind::Group => "group",
+            StepKind::Enqcmd => "enqcmd",
+            StepKind::Movdir => "movdir",
+            StepKind::Dispatch => "dispatch",
+            StepKind::Fetch => "fetch",
+            StepKind::Start => "start",
+            StepKind::Finish => "finish",
+            StepKind::Command => "command",
+            StepKind::Poll => "poll",
+            StepKind::Clear => "clear",
+        }
+    }
+
+    /// Its keys beside `do`.
+    pub fn fields(self) -> &'static [Field]
+        ensures { map row_of_field result.now ≡ rows_of_kind self }
+    {
+        match self {
+            StepKind::Queue => &QUEUE,
+            StepKind::Group => &GROUP,
+            StepKind::Enqcmd => &ENQCMD,
+            StepKind::Movdir => &MOVDIR,
+            StepKind::Dispatch | StepKind::Start => &ENGINE,
+            StepKind::Fetch => &FETCH,
+            StepKind::Finish => &FINISH,
+            StepKind::Command => &COMMAND,
+            StepKind::Poll | StepKind::Clear => &[],
+        }
+    }
+}
+
+/// The kind of a step object, by its text `do`.
+#[inline(always)]
+pub fn kind_of(step: &Value) -> Option<StepKind>
+    ensures { result ≡ kind_of (view step.now) }
+{
+    StepKind::parse(step.get("do")?.as_str()?)
+}
 
 /// What one step object asks (profile).
 #[derive(Clone, Copy, Debug, PartialEq, Eq)]
@@ -43,40 +195,6 @@ pub fn parse_caps(object: &Value) -> Option<Caps>
     })
 }
 
-fn parse_queue_config(object: &Value) -> Option<QueueConfig>
-    ensures { result ≡ queue_config_of (view object.now) }
-{
-    Some(QueueConfig {
-        size: u16_field(object, "size")?,
-        threshold: u16_field(object, "threshold")?,
-        dedicated: truth_field(object, "dedicated")?,
-        priority: u8_field(object, "priority")?,
-        pasid: u32_field(object, "pasid")?,
-        max_batch_shift: u8_field(object, "batch")?,
-        max_xfer_shift: u8_field(object, "xfer")?,
-    })
-}
-
-fn parse_group_config(object: &Value) -> Option<GroupConfig>
-    ensures { result ≡ group_config_of (view object.now) }
-{
-    Some(GroupConfig {
-        queues: u64_field(object, "queues")?,
-        engines: u64_field(object, "engines")?,
-        reserved: u16_field(object, "reserved")?,
-        allowed: u16_field(object, "allowed")?,
-    })
-}
-
-#[inline(always)]
-fn parse_desc(object: &Value) -> Option<Descriptor>
-    ensures { result ≡ desc_of (view object.now) }
-{
-    let text = object.get("desc")?.as_str()?;
-    let bytes = bytes_of_hex(text)?;
-    Some(Descriptor::parse(&bytes))
-}
-
 #[inline(always)]
 fn portal_of(limited: bool) -> Portal
     ensures { result ≡ portal_of_limited limited }
@@ -100,57 +218,70 @@ fn outcome_of(fault: bool) -> Outcome
 }
 
 fn parse_queue(object: &Value) -> Option<Action>
-    ensures { result ≡ queue_action_of (view object.now) }
+    ensures { result ≡ action_by StepKind.Queue (view object.now) }
 {
     let queue = u16_field(object, "queue")?;
-    let config = parse_queue_config(object)?;
+    let config = QueueConfig {
+        size: u16_field(object, "size")?,
+        threshold: u16_field(object, "threshold")?,
+        dedicated: truth_field(object, "dedicated")?,
+        priority: u8_field(object, "priority")?,
+        pasid: u32_field(object, "pasid")?,
+        max_batch_shift: u8_field(object, "batch")?,
+        max_xfer_shift: u8_field(object, "xfer")?,
+    };
     Some(Action::Ask(Event::WriteQueue { queue, config }))
 }
 
 fn parse_group(object: &Value) -> Option<Action>
-    ensures { result ≡ group_action_of (view object.now) }
+    ensures { result ≡ action_by StepKind.Group (view object.now) }
 {
     let group = u16_field(object, "group")?;
-    let config = parse_group_config(object)?;
+    let config = GroupConfig {
+        queues: u64_field(object, "queues")?,
+        engines: u64_field(object, "engines")?,
+        reserved: u16_field(object, "reserved")?,
+        allowed: u16_field(object, "allowed")?,
+    };
     Some(Action::Ask(Event::WriteGroup { group, config }))
 }
 
 fn parse_enqcmd(object: &Value) -> Option<Action>
-    ensures { result ≡ enqcmd_action_of (view object.now) }
+    ensures { result ≡ action_by StepKind.Enqcmd (view object.now) }
 {
     let client = u16_field(object, "client")?;
     let queue = u16_field(object, "queue")?;
     let limited = truth_field(object, "limited")?;
     let pasid = u32_field(object, "pasid")?;
-    let desc = parse_desc(object)?;
+    let desc = digits_field(object, "desc")?;
     Some(Action::Ask(Event::Submit {
         client,
         queue,
         portal: portal_of(limited),
         kind: Kind::Enqcmd { pasid },
-        desc,
+        desc: Descriptor::parse(&desc),
     }))
 }
 
 fn parse_movdir(object: &Value) -> Option<Action>
-    ensures { result ≡ movdir_action_of (view object.now) }
+    ensures { result ≡ action_by StepKind.Movdir (view object.now) }
 {
     let client = u16_field(object, "client")?;
     let queue = u16_field(object, "queue")?;
     let limited = truth_field(object, "limited")?;
-    let desc = parse_desc(object)?;
+    let desc = digits_field(object, "desc")?;
     Some(Action::Ask(Event::Submit {
         client,
         queue,
         portal: portal_of(limited),
         kind: Kind::Movdir64b,
-        desc,
+        desc: Descriptor::parse(&desc),
     }))
 }
 
 #[inline(always)]
 fn parse_dispatch(object: &Value) -> Option<Action>
-    ensures { result ≡ dispatch_action_of (view object.now) }
+    ensures { result ≡ action_by StepKind.Dispatch (view object.now) }
 {
     let engine = u16_field(object, "engine")?;
     Some(Action::Ask(Event::Dispatch { engine }))
@@ -158,16 +289,19 @@ fn parse_dispatch(object: &Value) -> Option<Action>
 
 #[inline(always)]
 fn parse_fetch(object: &Value) -> Option<Action>
-    ensures { result ≡ fetch_action_of (view object.now) }
+    ensures { result ≡ action_by StepKind.Fetch (view object.now) }
 {
     let engine = u16_field(object, "engine")?;
-    let desc = parse_desc(object)?;
-    Some(Action::Ask(Event::Fetch { engine, desc }))
+    let desc = digits_field(object, "desc")?;
+    Some(Action::Ask(Event::Fetch {
+        engine,
+        desc: Descriptor::parse(&desc),
+    }))
 }
 
 #[inline(always)]
 fn parse_start(object: &Value) -> Option<Action>
-    ensures { result ≡ start_action_of (view object.now) }
+    ensures { result ≡ action_by StepKind.Start (view object.now) }
 {
     let engine = u16_field(object, "engine")?;
     Some(Action::Ask(Event::Start { engine }))
@@ -175,7 +309,7 @@ fn parse_start(object: &Value) -> Option<Action>
 
 #[inline(always)]
 fn parse_finish(object: &Value) -> Option<Action>
-    ensures { result ≡ finish_action_of (view object.now) }
+    ensures { result ≡ action_by StepKind.Finish (view object.now) }
 {
     let engine = u16_field(object, "engine")?;
     let name = u32_field(object, "name")?;
@@ -199,10 +333,29 @@ fn action_of_word(word: u32) -> Action
 
 #[inline(always)]
 fn parse_command(object: &Value) -> Option<Action>
-    ensures { result ≡ command_action_of (view object.now) }
+    ensures { result ≡ action_by StepKind.Command (view object.now) }
 {
     let word = u32_field(object, "word")?;
     Some(action_of_word(word))
+}
+
+#[inline(always)]
+fn parse_by_kind(kind: StepKind, object: &Value) -> Option<Action>
+    ensures { result ≡ action_by kind (view object.now) }
+{
+    match kind {
+        StepKind::Queue => parse_queue(object),
+        StepKind::Group => parse_group(object),
+        StepKind::Enqcmd => parse_enqcmd(object),
+        StepKind::Movdir => parse_movdir(object),
+        StepKind::Dispatch => parse_dispatch(object),
+        StepKind::Fetch => parse_fetch(object),
+        StepKind::Start => parse_start(object),
+        StepKind::Finish => parse_finish(object),
+        StepKind::Command => parse_command(object),
+        StepKind::Poll => Some(Action::Ask(Event::Poll)),
+        StepKind::Clear => Some(Action::Ask(Event::ClearError)),
+    }
 }
 
 /// What a step object asks, by its text `do` and the fields of that kind of step; other fields are
@@ -211,18 +364,5 @@ fn parse_command(object: &Value) -> Option<Action>
 pub fn parse_action(object: &Value) -> Option<Action>
     ensures { result ≡ action_of (view object.now) }
 {
-    match object.get("do")?.as_str()? {
-        "queue" => parse_queue(object),
-        "group" => parse_group(object),
-        "enqcmd" => parse_enqcmd(object),
-        "movdir" => parse_movdir(object),
-        "dispatch" => parse_dispatch(object),
-        "fetch" => parse_fetch(object),
-        "start" => parse_start(object),
-        "finish" => parse_finish(object),
-        "command" => parse_command(object),
-        "poll" => Some(Action::Ask(Event::Poll)),
-        "clear" => Some(Action::Ask(Event::ClearError)),
-        _ => None,
-    }
+    parse_by_kind(kind_of(object)?, object)
 }

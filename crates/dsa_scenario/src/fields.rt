@@ -1,11 +1,40 @@
-//! Fields of JSON objects.
+//! Fields of JSON objects, and tables of them.
 
 ghost use Rattle.std.specs.Prelude.{◌≡◌, ◌≤◌, ◌^◌, ◌%◌, ◌/◌, ◌++◌, true, false, drop, length, MatchResult};
 ghost use Rattle.serde_json.specs.View.{view};
 ghost use Rattle.hex.specs.Hex.{decode_pairs};
-ghost use Rattle.dsa_scenario.specs.Fields.{whole_of, truth_of, text_of, hex_bytes_of};
+ghost use Rattle.dsa_scenario.specs.Fields.{whole_of, truth_of, digits_of, hex_bytes_of};
 
 use serde_json::Value;
+
+/// What may stand at a key.
+#[derive(Clone, Copy, PartialEq, Eq)]
+pub enum Form {
+    /// A whole number without sign, from the least to the most.
+    Whole { least: u64, most: u64 },
+    /// A whole number without sign that the document's field holds, of which a device may have
+    /// those from the least to the most.
+    Bounded { field: u64, least: u64, most: u64 },
+    Truth,
+    Text,
+    /// A text of hexadecimal digits, which are the bytes of a descriptor.
+    Digits,
+    Array,
+    Object,
+}
+
+/// A key that an object is asked for, and what may stand there.
+#[derive(Clone, Copy)]
+pub struct Field {
+    pub name: &'static str,
+    pub form: Form,
+}
+
+/// A table of keys, each with what may stand there.
+#[macro_export]
+macro_rules! table_of {
+    ($($name:literal: $form:expr),*) => { [$($crate::Field { name: $name, form: $form }),*] };
+}
 
 /// The number at the key, where it is whole and without sign.
 #[inline(always)]
@@ -45,6 +74,14 @@ pub fn truth_field(object: &Value, key: &str) -> Option<bool>
     ensures { result ≡ truth_of key.now (view object.now) }
 {
     object.get(key)?.as_bool()
+}
+
+/// The bytes that the text at the key says.
+#[inline(always)]
+pub fn digits_field(object: &Value, key: &str) -> Option<[u8; 64]>
+    ensures { result ≡ digits_of key.now (view object.now) }
+{
+    bytes_of_hex(object.get(key)?.as_str()?)
 }
 
 // Writes the bytes of a text of hexadecimal digits over the first of `bytes`, and says whether it

@@ -22,11 +22,11 @@ mod steps;
 mod watched;
 mod writing;
 
-pub use actions::{Action, parse_action, parse_caps};
+pub use actions::{Action, KIND_NAMES, KINDS, StepKind, kind_of, parse_action, parse_caps};
 pub use counted::CountedReader;
 pub use document::{Head, check_head, parse_head, parse_json};
 pub use faults::ScenarioFault;
-pub use fields::{bytes_of_hex, u64_field};
+pub use fields::{Field, Form, bytes_of_hex, u64_field};
 pub use lines::{add_answer, add_record, add_rows};
 pub use opening::{MakeStore, Run, open_run};
 pub use reading::MAX_READS;

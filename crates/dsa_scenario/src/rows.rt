@@ -1,7 +1,7 @@
 //! Worked documents and lines: what the definitions answer at chosen values, by computation.
 
 ghost use Rattle.std.specs.Prelude.{⊤, ◌≡◌, ◌≢◌, ◌^◌, ◌+◌, ◌++◌, [], ◌∷◌, ℕ, List, codes, flat_map, length, map, replicate, negsuc, Some, None, Ok, Err, true, false};
-ghost use Rattle.serde_json.specs.Data.{negative, null, boolean, number, string, array, no_items, item};
+ghost use Rattle.serde_json.specs.Data.{negative, null, boolean, number, string, array, no_items, item, no_members};
 ghost use Rattle.dsa_desc.specs.declared.Outcome.TheVariants.{Success, PageFault};
 ghost use Rattle.dsa_regs.specs.declared.Command.TheVariants.{EnableDevice, EnableWq};
 ghost use Rattle.dsa_regs.specs.declared.Fault.TheVariants.{BadCommand, Busy, BadIndex};
@@ -22,13 +22,15 @@ ghost use Rattle.dsa_book.specs.declared.event.Portal.TheVariants.{Limited, Unli
 ghost use Rattle.dsa_book.specs.declared.fate.Fate.TheVariants.{Completed, Aborted, Abandoned};
 ghost use Rattle.dsa_device.specs.Running.{running_at_first};
 ghost use Rattle.dsa_scenario.specs.declared.actions.Action.TheVariants.{Ask, Finish, Refuse};
+ghost use Rattle.dsa_scenario.specs.declared.actions.StepKind.TheVariants as kind;
 ghost use Rattle.dsa_scenario.specs.declared.counted.CountedReader.{CountedReader};
 ghost use Rattle.dsa_scenario.specs.declared.faults.ScenarioFault.{ScenarioFault};
 ghost use Rattle.dsa_scenario.specs.declared.faults.ScenarioFault.TheVariants.{Read, TooLong, NotJson, BadDocument, BadStep, BadCaps, BadCapacity, Differs, Write, OutOfMemory};
 ghost use Rattle.dsa_scenario.specs.declared.run.Record.TheVariants.{Refused};
 ghost use Rattle.dsa_scenario.specs.declared.watched.WatchedWriter.{WatchedWriter};
-ghost use Rattle.dsa_scenario.specs.Fields.{whole_of, truth_of, text_of, hex_bytes_of};
-ghost use Rattle.dsa_scenario.specs.Actions.{caps_of, action_of};
+ghost use Rattle.dsa_scenario.specs.declared.fields.Form.TheVariants as form;
+ghost use Rattle.dsa_scenario.specs.Fields.{whole_of, truth_of, text_of, hex_bytes_of, reading_at};
+ghost use Rattle.dsa_scenario.specs.Actions.{caps_of, kinds, kind_text, rows_of_kind, kind_named, names_text, kind_of, action_of};
 ghost use Rattle.dsa_scenario.specs.Counted.{counted_remaining, asked_of, given_of, has_reader_failed};
 ghost use Rattle.dsa_scenario.specs.Counted.{HasGiven, IsAskedFor, IsReadFor};
 ghost use Rattle.dsa_scenario.specs.Document.{head_of, list_of_items, HasHead, IsBadAt, IsDocument, IsFaultOf, IsFirstBad, IsJson, IsOpenable};
@@ -278,6 +280,79 @@ pub fn kinds_of_steps()
         ≡ None }
     ensures more { action_of (object_of ((codes "engine", null) ∷ poll_step)) ≡ Some (Ask Poll) }
     ensures no_object { action_of (string (codes "poll")) ≡ None }
+{}
+
+/// Names of kinds, and objects that name one.
+pub fn names_of_kinds()
+    ensures named { kind_named (codes "enqcmd") ≡ Some kind.Enqcmd }
+    ensures longer { kind_named (codes "polls") ≡ None }
+    ensures capital { kind_named (codes "Poll") ≡ None }
+    ensures empty { kind_named [] ≡ None }
+    ensures step { kind_of (object_of poll_step) ≡ Some kind.Poll }
+    ensures number { kind_of (object_of ((codes "do", whole 1) ∷ [])) ≡ None }
+    ensures no_object { kind_of (string (codes "poll")) ≡ None }
+    ensures in_words { names_text kinds
+        ≡ codes "queue, group, enqcmd, movdir, dispatch, fetch, start, finish, command, poll "
+        ++ codes "and clear" }
+    ensures one { names_text (kind.Poll ∷ []) ≡ codes "poll" }
+    ensures none { names_text [] ≡ [] }
+{}
+
+/// All kinds of steps with their names, and the keys of each.
+pub fn tables_of_steps()
+    ensures kinds { kinds
+        ≡ kind.Queue ∷ kind.Group ∷ kind.Enqcmd ∷ kind.Movdir ∷ kind.Dispatch ∷ kind.Fetch
+        ∷ kind.Start ∷ kind.Finish ∷ kind.Command ∷ kind.Poll ∷ kind.Clear ∷ [] }
+    ensures names { map kind_text kinds
+        ≡ codes "queue" ∷ codes "group" ∷ codes "enqcmd" ∷ codes "movdir" ∷ codes "dispatch"
+        ∷ codes "fetch" ∷ codes "start" ∷ codes "finish" ∷ codes "command" ∷ codes "poll"
+        ∷ codes "clear" ∷ [] }
+    ensures queue { rows_of_kind kind.Queue
+        ≡ (codes "queue", form.Whole 0 65535) ∷ (codes "size", form.Whole 0 65535)
+        ∷ (codes "threshold", form.Whole 0 65535) ∷ (codes "dedicated", form.Truth)
+        ∷ (codes "priority", form.Whole 0 255) ∷ (codes "pasid", form.Whole 0 4294967295)
+        ∷ (codes "batch", form.Whole 0 255) ∷ (codes "xfer", form.Whole 0 255) ∷ [] }
+    ensures group { rows_of_kind kind.Group
+        ≡ (codes "group", form.Whole 0 65535) ∷ (codes "queues", form.Whole 0 18446744073709551615)
+        ∷ (codes "engines", form.Whole 0 18446744073709551615)
+        ∷ (codes "reserved", form.Whole 0 65535) ∷ (codes "allowed", form.Whole 0 65535) ∷ [] }
+    ensures enqcmd { rows_of_kind kind.Enqcmd
+        ≡ (codes "client", form.Whole 0 65535) ∷ (codes "queue", form.Whole 0 65535)
+        ∷ (codes "limited", form.Truth) ∷ (codes "pasid", form.Whole 0 4294967295)
+        ∷ (codes "desc", form.Digits) ∷ [] }
+    ensures movdir { rows_of_kind kind.Movdir
+        ≡ (codes "client", form.Whole 0 65535) ∷ (codes "queue", form.Whole 0 65535)
+        ∷ (codes "limited", form.Truth) ∷ (codes "desc", form.Digits) ∷ [] }
+    ensures engines { map rows_of_kind
+        (kind.Dispatch ∷ kind.Fetch ∷ kind.Start ∷ kind.Finish ∷ [])
+        ≡ ((codes "engine", form.Whole 0 65535) ∷ [])
+        ∷ ((codes "engine", form.Whole 0 65535) ∷ (codes "desc", form.Digits) ∷ [])
+        ∷ ((codes "engine", form.Whole 0 65535) ∷ [])
+        ∷ ((codes "engine", form.Whole 0 65535) ∷ (codes "name", form.Whole 0 4294967295)
+        ∷ (codes "fault", form.Truth) ∷ [])
+        ∷ [] }
+    ensures administrator { map rows_of_kind (kind.Command ∷ kind.Poll ∷ kind.Clear ∷ [])
+        ≡ ((codes "word", form.Whole 0 4294967295) ∷ []) ∷ [] ∷ [] ∷ [] }
+{}
+
+/// What is read at a key, by each form.
+pub fn readings()
+    ensures whole { map
+        (λ n. reading_at (form.Whole 3 9) (codes "n") (object_of ((codes "n", whole n) ∷ [])))
+        (0 ∷ 2 ∷ 3 ∷ 9 ∷ 10 ∷ [])
+        ≡ None ∷ None ∷ Some 3 ∷ Some 9 ∷ None ∷ [] }
+    ensures bounded { map
+        (λ n. reading_at (form.Bounded 9 3 5) (codes "n") (object_of ((codes "n", whole n) ∷ [])))
+        (0 ∷ 9 ∷ 10 ∷ [])
+        ≡ Some 0 ∷ Some 9 ∷ None ∷ [] }
+    ensures truth { reading_at form.Truth (codes "fault") (object_of finish_step) ≡ Some true }
+    ensures no_truth { reading_at form.Truth (codes "engine") (object_of finish_step) ≡ None }
+    ensures text { reading_at form.Text (codes "do") (object_of poll_step) ≡ Some (codes "poll") }
+    ensures array { reading_at form.Array (codes "a") (object_of ((codes "a", array no_items) ∷ []))
+        ≡ Some no_items }
+    ensures object { reading_at form.Object (codes "o") (object_of ((codes "o", object_of []) ∷ []))
+        ≡ Some no_members }
+    ensures other_key { reading_at form.Text (codes "Do") (object_of poll_step) ≡ None }
 {}
 
 /// The lines of submissions.

@@ -6,7 +6,7 @@ use Rattle.dsa_book.specs.declared.{answer.Reply.{Reply}, event.{Event.{Event}, 
 use Rattle.dsa_book.specs.Machine.{is_stored, history_after}
 use Rattle.dsa_device.{specs.Running.{Running, IsReplay, after_answer}, proofs.Steps.{grows}}
 use Rattle.dsa_regs.specs.declared.Caps.{Caps}
-use Rattle.dsa_shared.specs.{Seat.{SeatLog, with_step, with_receipt}, Locked.{IsAnsweredFor}}
+use Rattle.dsa_shared.specs.{Seat.{SeatLog, with_step}, Locked.{IsAnsweredFor, IsSeatStep, IsAdminStep}}
 
 grown : (h t : List Step) (x : Step) → t ≡ history_after h x → (length h ≤ length t) × (length t ≤ length h + 1)
 grown h t x s = let e = ap (λ (xs : List Step). length xs) s in go (is_stored x.reply) e
@@ -16,14 +16,14 @@ grown h t x s = let e = ap (λ (xs : List Step). length xs) s in go (is_stored x
     go false e = (omega (arith, e), omega (arith, e))
 
 -- the history has grown by a step at most
-pub within : (h : List Step) (d t : Running) (e : Event) (r : Reply) → h ≡ d.history → after_answer d e r ≡ Some t
+within : (h : List Step) (d t : Running) (e : Event) (r : Reply) → h ≡ d.history → after_answer d e r ≡ Some t
     → (length h ≤ length t.history) × (length t.history ≤ length h + 1)
 within h d t e r same a =
     let P : List Step → Type 0 = λ xs. (length xs ≤ length t.history) × (length t.history ≤ length xs + 1) in
     subst P (sym same) (grown d.history t.history (record { event = e; reply = r }) (grows d t e r a).history)
 
 -- what the history has gained follows on the receipts
-pub gained : (receipts : List Step) (h : List Step) (d t : Running) (e : Event) (r : Reply) → h ≡ d.history
+gained : (receipts : List Step) (h : List Step) (d t : Running) (e : Event) (r : Reply) → h ≡ d.history
     → after_answer d e r ≡ Some t
     → receipts ++ drop (length h) t.history ≡ with_step receipts e r
 gained receipts h d t e r same a =
@@ -35,16 +35,8 @@ gained receipts h d t e r same a =
     go true = ap (λ z. receipts ++ z) (drop_at d.history (record { event = e; reply = r } ∷ []) (length d.history) refl)
     go false = ap (λ z. receipts ++ z) (drop_all (length d.history) d.history (omega arith)) ∙ append-nil receipts
 
--- a numbered seat after a step, from what it has inside
-pub seat_after : (inside seat : SeatLog) (after : List Step) (event_by : ℕ → Event) (r : Reply)
-    → inside ≡ seat → after ≡ with_step inside.receipts (event_by inside.number) r
-    → record { number = inside.number; receipts = after } ≡ with_receipt seat (event_by seat.number) r
-seat_after inside seat after event_by r same is =
-    ap (λ (xs : List Step). let s : SeatLog = record { number = inside.number; receipts = xs } in s) is
-    ∙ ap (λ (s : SeatLog). with_receipt s (event_by s.number) r) same
-
 -- what the device under the lock answers, with the receipts and the history that it had before
-pub answered_for : (caps : Caps) (capacity : ℕ) (receipts h : List Step) (d t : Running) (e : Event) (r : Reply)
+answered_for : (caps : Caps) (capacity : ℕ) (receipts h : List Step) (d t : Running) (e : Event) (r : Reply)
     → IsReplay d → d.caps ≡ caps → d.capacity ≡ capacity → h ≡ d.history → length receipts ≤ length h
     → after_answer d e r ≡ Some t → IsAnsweredFor caps capacity receipts e r
 answered_for caps capacity receipts h d t e r replay same_caps same_capacity same seen a =
@@ -56,9 +48,50 @@ answered_for caps capacity receipts h d t e r replay same_caps same_capacity sam
       a,
     )
 
--- the same for a numbered seat, from what it has inside
-pub answered_seat : (caps : Caps) (capacity : ℕ) (inside seat : SeatLog) (event_by : ℕ → Event) (r : Reply)
-    → inside ≡ seat → IsAnsweredFor caps capacity inside.receipts (event_by inside.number) r
-    → IsAnsweredFor caps capacity seat.receipts (event_by seat.number) r
-answered_seat caps capacity inside seat event_by r same a =
-    subst (λ (s : SeatLog). IsAnsweredFor caps capacity s.receipts (event_by s.number) r) same a
+-- what a step owes the ledger, the lock and the receipts of a seat of this number
+pub record Owed (caps : Caps) (capacity : ℕ) (h : List Step) (t : Running) (event_by : ℕ → Event) (number : ℕ)
+    (r : Reply) : Type 0 where
+  pub same_capacity : t.capacity ≡ capacity
+  pub same_caps : t.caps ≡ caps
+  pub grown : (length h ≤ length t.history) × (length t.history ≤ length h + 1)
+  pub gained : (receipts : List Step) → receipts ++ drop (length h) t.history ≡ with_step receipts (event_by number) r
+  pub answered : (receipts : List Step) → length receipts ≤ length h
+      → IsAnsweredFor caps capacity receipts (event_by number) r
+
+pub owed : (caps : Caps) (capacity : ℕ) (h : List Step) (d t : Running) (event_by : ℕ → Event) (number : ℕ) (r : Reply)
+    → IsReplay d → d.capacity ≡ capacity → d.caps ≡ caps → h ≡ d.history → after_answer d (event_by number) r ≡ Some t
+    → Owed caps capacity h t event_by number r
+owed caps capacity h d t event_by number r replay same_capacity same_caps same a =
+    let s = grows d t (event_by number) r a in
+    record {
+      same_capacity = s.capacity ∙ same_capacity;
+      same_caps = s.caps ∙ same_caps;
+      grown = within h d t (event_by number) r same a;
+      gained = λ receipts. gained receipts h d t (event_by number) r same a;
+      answered = λ receipts seen. answered_for caps capacity receipts h d t (event_by number) r replay same_caps
+          same_capacity same seen a;
+    }
+
+-- a numbered seat after a step, from what it has inside
+pub seat_step : (caps : Caps) (capacity : ℕ) (h : List Step) (t : Running) (event_by : ℕ → Event) (number : ℕ)
+    (r : Reply) (before after : List Step) (seat : SeatLog) → Owed caps capacity h t event_by number r
+    → record { number = number; receipts = before } ≡ seat → length before ≤ length h
+    → after ≡ before ++ drop (length h) t.history
+    → IsSeatStep caps capacity seat (record { number = number; receipts = after }) (event_by seat.number) r
+seat_step caps capacity h t event_by number r before after seat owes same seen noted =
+    let log : List Step → SeatLog = λ xs. record { number = number; receipts = xs } in
+    subst (λ (s : SeatLog). IsSeatStep caps capacity s (log after) (event_by s.number) r) same (record {
+      answered = owes.answered before seen;
+      receipts = ap log (noted ∙ owes.gained before);
+    })
+
+-- the administrator's seat after a step
+pub admin_step : (caps : Caps) (capacity : ℕ) (h : List Step) (t : Running) (event_by : ℕ → Event) (number : ℕ)
+    (r : Reply) (before after seat : List Step) → Owed caps capacity h t event_by number r → before ≡ seat
+    → length before ≤ length h → after ≡ before ++ drop (length h) t.history
+    → IsAdminStep caps capacity seat after (event_by number) r
+admin_step caps capacity h t event_by number r before after seat owes same seen noted =
+    subst (λ (s : List Step). IsAdminStep caps capacity s after (event_by number) r) same (record {
+      answered = owes.answered before seen;
+      receipts = noted ∙ owes.gained before;
+    })

@@ -6,8 +6,7 @@ ghost use Rattle.dsa_regs.specs.Caps.{cell_count};
 ghost use Rattle.dsa_desc.specs.Descriptor.{read};
 ghost use Rattle.dsa_book.specs.declared.event.Event.TheVariants as event;
 ghost use Rattle.dsa_book.specs.declared.answer.Reply.TheVariants as reply;
-ghost use Rattle.dsa_shared.specs.Locked.{IsAnsweredFor, IsReadOf};
-ghost use Rattle.dsa_shared.specs.Seat.{with_receipt, with_step};
+ghost use Rattle.dsa_shared.specs.Locked.{IsAdminStep, IsReadOf, IsSeatStep};
 
 use crate::blanks::Sharing;
 use crate::locked;
@@ -45,11 +44,7 @@ impl<S: EntryStore, L: Sharing> SharedDevice<S, L> {
         kind: Kind,
         bytes: &[u8; 64],
     ) -> SubmitAnswer
-        ensures answered { IsAnsweredFor L.caps L.capacity seat.old.receipts
-            (event.Submit seat.old.number queue portal kind (read bytes.now))
-            (reply.Submit result) }
-        ensures receipts { seat.new
-            ≡ with_receipt seat.old
+        ensures { IsSeatStep L.caps L.capacity seat.old seat.new
             (event.Submit seat.old.number queue portal kind (read bytes.now))
             (reply.Submit result) }
     {
@@ -63,10 +58,8 @@ impl<S: EntryStore, L: Sharing> SharedDevice<S, L> {
         rt: &R,
         seat: &mut EngineSeat<L, A>,
     ) -> DispatchAnswer
-        ensures answered { IsAnsweredFor L.caps L.capacity seat.old.receipts
+        ensures { IsSeatStep L.caps L.capacity seat.old seat.new
             (event.Dispatch seat.old.number) (reply.Dispatch result) }
-        ensures receipts { seat.new
-            ≡ with_receipt seat.old (event.Dispatch seat.old.number) (reply.Dispatch result) }
     {
         locked::dispatch(&mut self.locked.lock(rt), seat)
     }
@@ -79,10 +72,8 @@ impl<S: EntryStore, L: Sharing> SharedDevice<S, L> {
         seat: &mut EngineSeat<L, A>,
         desc: Descriptor,
     ) -> FetchAnswer
-        ensures answered { IsAnsweredFor L.caps L.capacity seat.old.receipts
+        ensures { IsSeatStep L.caps L.capacity seat.old seat.new
             (event.Fetch seat.old.number desc) (reply.Fetch result) }
-        ensures receipts { seat.new
-            ≡ with_receipt seat.old (event.Fetch seat.old.number desc) (reply.Fetch result) }
     {
         locked::fetch(&mut self.locked.lock(rt), seat, desc)
     }
@@ -90,10 +81,8 @@ impl<S: EntryStore, L: Sharing> SharedDevice<S, L> {
     /// The engine of the seat starts the first of its members that does not run.
     #[inline(always)]
     pub fn start<R: Wait, A: Allocator>(&self, rt: &R, seat: &mut EngineSeat<L, A>) -> StartAnswer
-        ensures answered { IsAnsweredFor L.caps L.capacity seat.old.receipts
+        ensures { IsSeatStep L.caps L.capacity seat.old seat.new
             (event.Start seat.old.number) (reply.Start result) }
-        ensures receipts { seat.new
-            ≡ with_receipt seat.old (event.Start seat.old.number) (reply.Start result) }
     {
         locked::start(&mut self.locked.lock(rt), seat)
     }
@@ -107,11 +96,8 @@ impl<S: EntryStore, L: Sharing> SharedDevice<S, L> {
         ticket: Ticket,
         outcome: Outcome,
     ) -> FinishAnswer
-        ensures answered { IsAnsweredFor L.caps L.capacity seat.old.receipts
+        ensures { IsSeatStep L.caps L.capacity seat.old seat.new
             (event.Finish seat.old.number ticket outcome) (reply.Finish result) }
-        ensures receipts { seat.new
-            ≡ with_receipt seat.old (event.Finish seat.old.number ticket outcome)
-            (reply.Finish result) }
     {
         locked::finish(&mut self.locked.lock(rt), seat, ticket, outcome)
     }
@@ -124,10 +110,8 @@ impl<S: EntryStore, L: Sharing> SharedDevice<S, L> {
         seat: &mut AdminSeat<L, A>,
         command: Command,
     ) -> IssueAnswer
-        ensures answered { IsAnsweredFor L.caps L.capacity seat.old
+        ensures { IsAdminStep L.caps L.capacity seat.old seat.new
             (event.Issue command) (reply.Issue result) }
-        ensures receipts { seat.new
-            ≡ with_step seat.old (event.Issue command) (reply.Issue result) }
     {
         locked::issue(&mut self.locked.lock(rt), seat, command)
     }
@@ -135,9 +119,7 @@ impl<S: EntryStore, L: Sharing> SharedDevice<S, L> {
     /// The administrator asks whether the active command is over.
     #[inline(always)]
     pub fn poll<R: Wait, A: Allocator>(&self, rt: &R, seat: &mut AdminSeat<L, A>) -> PollAnswer
-        ensures answered { IsAnsweredFor L.caps L.capacity seat.old event.Poll
-            (reply.Poll result) }
-        ensures receipts { seat.new ≡ with_step seat.old event.Poll (reply.Poll result) }
+        ensures { IsAdminStep L.caps L.capacity seat.old seat.new event.Poll (reply.Poll result) }
     {
         locked::poll(&mut self.locked.lock(rt), seat)
     }
@@ -151,10 +133,8 @@ impl<S: EntryStore, L: Sharing> SharedDevice<S, L> {
         queue: u16,
         config: QueueConfig,
     ) -> WriteAnswer
-        ensures answered { IsAnsweredFor L.caps L.capacity seat.old
+        ensures { IsAdminStep L.caps L.capacity seat.old seat.new
             (event.WriteQueue queue config) (reply.Write result) }
-        ensures receipts { seat.new
-            ≡ with_step seat.old (event.WriteQueue queue config) (reply.Write result) }
     {
         locked::write_queue(&mut self.locked.lock(rt), seat, queue, config)
     }
@@ -168,10 +148,8 @@ impl<S: EntryStore, L: Sharing> SharedDevice<S, L> {
         group: u16,
         config: GroupConfig,
     ) -> WriteAnswer
-        ensures answered { IsAnsweredFor L.caps L.capacity seat.old
+        ensures { IsAdminStep L.caps L.capacity seat.old seat.new
             (event.WriteGroup group config) (reply.Write result) }
-        ensures receipts { seat.new
-            ≡ with_step seat.old (event.WriteGroup group config) (reply.Write result) }
     {
         locked::write_group(&mut self.locked.lock(rt), seat, group, config)
     }
@@ -183,9 +161,8 @@ impl<S: EntryStore, L: Sharing> SharedDevice<S, L> {
         rt: &R,
         seat: &mut AdminSeat<L, A>,
     ) -> ClearAnswer
-        ensures answered { IsAnsweredFor L.caps L.capacity seat.old event.ClearError
-            (reply.Clear result) }
-        ensures receipts { seat.new ≡ with_step seat.old event.ClearError (reply.Clear result) }
+        ensures { IsAdminStep L.caps L.capacity seat.old seat.new
+            event.ClearError (reply.Clear result) }
     {
         locked::clear_error(&mut self.locked.lock(rt), seat)
     }

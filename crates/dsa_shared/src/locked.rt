@@ -8,8 +8,7 @@ ghost use Rattle.dsa_desc.specs.Descriptor.{read};
 ghost use Rattle.dsa_book.specs.declared.event.Event.TheVariants as event;
 ghost use Rattle.dsa_book.specs.declared.answer.Reply.TheVariants as reply;
 ghost use Rattle.dsa_device.specs.Running.{after_answer};
-ghost use Rattle.dsa_shared.specs.Locked.{IsAnsweredFor};
-ghost use Rattle.dsa_shared.specs.Seat.{with_receipt, with_step};
+ghost use Rattle.dsa_shared.specs.Locked.{IsAdminStep, IsSeatStep};
 
 mod checks;
 mod kept;
@@ -79,12 +78,8 @@ pub fn submit<S: EntryStore, L: Sharing, A: Allocator>(
     ensures step { after_answer locked.old
         (event.Submit seat.old.number queue portal kind (read bytes.now)) (reply.Submit result)
         ≡ Some locked.new }
-    ensures answered { IsAnsweredFor L.caps L.capacity seat.old.receipts
-        (event.Submit seat.old.number queue portal kind (read bytes.now))
-        (reply.Submit result) }
-    ensures receipts { seat.new
-        ≡ with_receipt seat.old (event.Submit seat.old.number queue portal kind (read bytes.now))
-        (reply.Submit result) }
+    ensures seat { IsSeatStep L.caps L.capacity seat.old seat.new
+        (event.Submit seat.old.number queue portal kind (read bytes.now)) (reply.Submit result) }
 {
     noting!(
         locked,
@@ -101,10 +96,8 @@ pub fn dispatch<S: EntryStore, L: Sharing, A: Allocator>(
 ) -> DispatchAnswer
     ensures step { after_answer locked.old (event.Dispatch seat.old.number) (reply.Dispatch result)
         ≡ Some locked.new }
-    ensures answered { IsAnsweredFor L.caps L.capacity seat.old.receipts
+    ensures seat { IsSeatStep L.caps L.capacity seat.old seat.new
         (event.Dispatch seat.old.number) (reply.Dispatch result) }
-    ensures receipts { seat.new
-        ≡ with_receipt seat.old (event.Dispatch seat.old.number) (reply.Dispatch result) }
 {
     noting!(locked, seat, |device| device.dispatch(seat.number))
 }
@@ -118,10 +111,8 @@ pub fn fetch<S: EntryStore, L: Sharing, A: Allocator>(
 ) -> FetchAnswer
     ensures step { after_answer locked.old (event.Fetch seat.old.number desc) (reply.Fetch result)
         ≡ Some locked.new }
-    ensures answered { IsAnsweredFor L.caps L.capacity seat.old.receipts
+    ensures seat { IsSeatStep L.caps L.capacity seat.old seat.new
         (event.Fetch seat.old.number desc) (reply.Fetch result) }
-    ensures receipts { seat.new
-        ≡ with_receipt seat.old (event.Fetch seat.old.number desc) (reply.Fetch result) }
 {
     noting!(locked, seat, |device| device.fetch(seat.number, desc))
 }
@@ -134,10 +125,8 @@ pub fn start<S: EntryStore, L: Sharing, A: Allocator>(
 ) -> StartAnswer
     ensures step { after_answer locked.old (event.Start seat.old.number) (reply.Start result)
         ≡ Some locked.new }
-    ensures answered { IsAnsweredFor L.caps L.capacity seat.old.receipts
+    ensures seat { IsSeatStep L.caps L.capacity seat.old seat.new
         (event.Start seat.old.number) (reply.Start result) }
-    ensures receipts { seat.new
-        ≡ with_receipt seat.old (event.Start seat.old.number) (reply.Start result) }
 {
     noting!(locked, seat, |device| device.start(seat.number))
 }
@@ -153,12 +142,8 @@ pub fn finish<S: EntryStore, L: Sharing, A: Allocator>(
     ensures step { after_answer locked.old (event.Finish seat.old.number ticket outcome)
         (reply.Finish result)
         ≡ Some locked.new }
-    ensures answered { IsAnsweredFor L.caps L.capacity seat.old.receipts
-        (event.Finish seat.old.number ticket outcome)
-        (reply.Finish result) }
-    ensures receipts { seat.new
-        ≡ with_receipt seat.old (event.Finish seat.old.number ticket outcome)
-        (reply.Finish result) }
+    ensures seat { IsSeatStep L.caps L.capacity seat.old seat.new
+        (event.Finish seat.old.number ticket outcome) (reply.Finish result) }
 {
     noting!(
         locked,
@@ -176,9 +161,8 @@ pub fn issue<S: EntryStore, L: Sharing, A: Allocator>(
 ) -> IssueAnswer
     ensures step { after_answer locked.old (event.Issue command) (reply.Issue result)
         ≡ Some locked.new }
-    ensures answered { IsAnsweredFor L.caps L.capacity seat.old
+    ensures seat { IsAdminStep L.caps L.capacity seat.old seat.new
         (event.Issue command) (reply.Issue result) }
-    ensures receipts { seat.new ≡ with_step seat.old (event.Issue command) (reply.Issue result) }
 {
     noting!(locked, seat, |device| device.issue(command))
 }
@@ -190,9 +174,7 @@ pub fn poll<S: EntryStore, L: Sharing, A: Allocator>(
     seat: &mut AdminSeat<L, A>,
 ) -> PollAnswer
     ensures step { after_answer locked.old event.Poll (reply.Poll result) ≡ Some locked.new }
-    ensures answered { IsAnsweredFor L.caps L.capacity seat.old
-        event.Poll (reply.Poll result) }
-    ensures receipts { seat.new ≡ with_step seat.old event.Poll (reply.Poll result) }
+    ensures seat { IsAdminStep L.caps L.capacity seat.old seat.new event.Poll (reply.Poll result) }
 {
     noting!(locked, seat, |device| device.poll())
 }
@@ -205,9 +187,8 @@ pub fn clear_error<S: EntryStore, L: Sharing, A: Allocator>(
 ) -> ClearAnswer
     ensures step { after_answer locked.old event.ClearError (reply.Clear result)
         ≡ Some locked.new }
-    ensures answered { IsAnsweredFor L.caps L.capacity seat.old
+    ensures seat { IsAdminStep L.caps L.capacity seat.old seat.new
         event.ClearError (reply.Clear result) }
-    ensures receipts { seat.new ≡ with_step seat.old event.ClearError (reply.Clear result) }
 {
     noting!(locked, seat, |device| device.clear_error())
 }
@@ -222,10 +203,8 @@ pub fn write_queue<S: EntryStore, L: Sharing, A: Allocator>(
 ) -> WriteAnswer
     ensures step { after_answer locked.old (event.WriteQueue queue config) (reply.Write result)
         ≡ Some locked.new }
-    ensures answered { IsAnsweredFor L.caps L.capacity seat.old
+    ensures seat { IsAdminStep L.caps L.capacity seat.old seat.new
         (event.WriteQueue queue config) (reply.Write result) }
-    ensures receipts { seat.new
-        ≡ with_step seat.old (event.WriteQueue queue config) (reply.Write result) }
 {
     noting!(locked, seat, |device| device.write_queue(queue, config))
 }
@@ -240,10 +219,8 @@ pub fn write_group<S: EntryStore, L: Sharing, A: Allocator>(
 ) -> WriteAnswer
     ensures step { after_answer locked.old (event.WriteGroup group config) (reply.Write result)
         ≡ Some locked.new }
-    ensures answered { IsAnsweredFor L.caps L.capacity seat.old
+    ensures seat { IsAdminStep L.caps L.capacity seat.old seat.new
         (event.WriteGroup group config) (reply.Write result) }
-    ensures receipts { seat.new
-        ≡ with_step seat.old (event.WriteGroup group config) (reply.Write result) }
 {
     noting!(locked, seat, |device| device.write_group(group, config))
 }

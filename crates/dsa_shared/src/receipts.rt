@@ -75,9 +75,9 @@ impl<L: Sharing, A: Allocator> Receipts<L, A> {
     // steps: one step, or none.
     #[inline(always)]
     pub fn note<S: EntryStore>(&mut self, ledger: &mut Book<L>, device: &Device<S>, before: usize)
-        requires capacity { device.now.capacity ≡ L.capacity }
         requires before { ledger.old.total ≡ before }
-        requires grown { (before ≤ length device.now.history)
+        requires grown { (device.now.capacity ≡ L.capacity)
+            × (before ≤ length device.now.history)
             × (length device.now.history ≤ before + 1) }
         ensures seen { length self.old.steps ≤ before }
         ensures total { ledger.new.total ≡ length device.now.history }

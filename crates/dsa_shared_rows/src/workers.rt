@@ -48,14 +48,14 @@ pub fn workers_that_go_on()
 /// Calls that are answered by a device whose history has no room, and calls that are not answered
 /// so, as by another kind of reply.
 pub fn calls_that_are_answered()
-    ensures submission { AnsweredNotBy (of_client 0 submit.Full) (reply.Dispatch dispatch.Full) }
-    ensures dispatched { AnsweredNotBy (asked_first 3 dispatch.Full) (reply.Fetch fetch.Full) }
-    ensures fetched { AnsweredNotBy (record (fetch_of_engine 3) { reply = reply.Fetch fetch.Full })
-        (reply.Start start.Full) }
-    ensures started { AnsweredNotBy (started_by_engine 3 start.Full) (reply.Finish finish.Full) }
-    ensures finished { AnsweredNotBy (end_of_engine 3 finish.Full) (reply.Issue issue.Full) }
-    ensures issued { AnsweredNotBy (drain_of_all issue.Full) (reply.Poll poll.Full) }
-    ensures polled { AnsweredNotBy (question poll.Full) (reply.Submit submit.Full) }
+    ensures by_kind { AnsweredNotBy (of_client 0 submit.Full) (reply.Dispatch dispatch.Full)
+        × AnsweredNotBy (asked_first 3 dispatch.Full) (reply.Fetch fetch.Full)
+        × AnsweredNotBy (record (fetch_of_engine 3) { reply = reply.Fetch fetch.Full })
+        (reply.Start start.Full)
+        × AnsweredNotBy (started_by_engine 3 start.Full) (reply.Finish finish.Full)
+        × AnsweredNotBy (end_of_engine 3 finish.Full) (reply.Issue issue.Full)
+        × AnsweredNotBy (drain_of_all issue.Full) (reply.Poll poll.Full)
+        × AnsweredNotBy (question poll.Full) (reply.Submit submit.Full) }
     ensures not_answered { ¬ IsCallAnswered wide_device 0 []
         (record (question poll.Full) { event = event.Dispatch 3 }) }
     ensures no_room { ¬ IsCallAnswered wide_device 0 [] (question poll.Nothing) }

@@ -1,7 +1,6 @@
 //! Tests of the layers up to the shared device and its workers, each by its public calls: of one
 //! layer, of both stores and of devices over them, of reasons that no sentence of an explanation
-//! tells, and of the device that threads share; and of documents, dialogues and the program's words
-//! with readers and writers that give or take little, or fail.
+//! tells, and of the device that threads share.
 #![tactic(auto)]
 
 /// What a test claims. It is a call, at which a proof does not split as it does at an `assert!`.
@@ -30,7 +29,5 @@ mod layers;
 #[cfg(test)]
 mod rows;
 mod shared;
-#[cfg(test)]
-mod streams;
 #[cfg(test)]
 mod untold;

@@ -22,7 +22,7 @@ use Rattle.dsa_workers.specs.Calls.{NextSubmission, NextCommand}
 use Rattle.dsa_workers.specs.Workers.{Grows, RunsScript, RunsClient, RunsAdmin}
 use Rattle.dsa_workers.specs.declared.scripts.{ClientStep.{ClientStep}, Stint.{Stint}}
 use Rattle.dsa_workers.specs.declared.scripts.WorkerEnd.TheVariants.{ScriptDone, TurnsOut, HistoryFull}
-use Rattle.dsa_shared.specs.{Seat.{SeatLog}, Locked.{IsAnsweredFor}}
+use Rattle.dsa_shared.specs.{Seat.{SeatLog}, Locked.{IsAnsweredFor, IsSeatStep, IsAdminStep}}
 
 -- ---- one more, in order
 
@@ -280,7 +280,7 @@ accepts_by old new calls is =
 -- ---- what was answered
 
 -- a call that was answered to a seat with these receipts
-pub answered_so : (caps : Caps) (capacity : ℕ) (old mid calls : List Step) (call : Step)
+answered_so : (caps : Caps) (capacity : ℕ) (old mid calls : List Step) (call : Step)
     → mid ≡ old ++ stored_steps calls → IsAnsweredFor caps capacity mid call.event call.reply
     → IsCallAnswered caps capacity (old ++ stored_steps calls) call
 answered_so caps capacity old mid calls call is answer =
@@ -288,7 +288,13 @@ answered_so caps capacity old mid calls call is answer =
 
 -- ---- clients
 
-pub client_next : (client mine : ℕ) (script : List ClientStep) (at : ℕ) (e : ClientStep) (calls : List Step)
+-- a client so far
+pub record SubmitsSoFar (caps : Caps) (capacity : ℕ) (script : List ClientStep) (old new : SeatLog) (turn at : ℕ)
+    : Type 0 where
+  pub number : new.number ≡ old.number
+  pub so_far : SoFar (NextSubmission caps capacity old script) (length script) old.receipts new.receipts turn at
+
+client_next : (client mine : ℕ) (script : List ClientStep) (at : ℕ) (e : ClientStep) (calls : List Step)
     → mine ≡ client → steps_done calls ≡ at → at < length script
     → (d : ClientStep) → submission_of_client_step mine (get_or script at e)
     ≡ submission_of_client_step client (get_or script (steps_done calls) d)
@@ -296,6 +302,24 @@ client_next client mine script at e calls same through below d =
     ap (λ n. submission_of_client_step n (get_or script at e)) same
     ∙ ap (submission_of_client_step client) (get_or_default script at e d below
     ∙ ap (λ n. get_or script n d) (sym through))
+
+pub submits_more : (caps : Caps) (capacity : ℕ) (script : List ClientStep) (old mid new : SeatLog) (turn at after : ℕ)
+    (e : ClientStep) (reply : Reply) → SubmitsSoFar caps capacity script old mid turn at
+    → IsSeatStep caps capacity mid new (submission_of_client_step mid.number (get_or script at e)) reply
+    → is_history_full reply ≡ false → at < length script → after ≡ at + cond {A = ℕ} (goes_on reply) 1 0
+    → SubmitsSoFar caps capacity script old new (turn + 1) after
+unfolding so_far_more
+submits_more caps capacity script old mid new turn at after e reply was made room below moved =
+    let call : Step = record { event = submission_of_client_step mid.number (get_or script at e); reply = reply } in
+    let so = was.so_far in
+    record {
+      number = ap (λ s. s.number) made.receipts ∙ was.number;
+      so_far = so_far_more (NextSubmission caps capacity old script) (length script) old.receipts mid.receipts
+          new.receipts turn at after call so (
+            answered_so caps capacity old.receipts mid.receipts so.calls call so.receipts made.answered,
+            client_next old.number mid.number script at e so.calls was.number so.steps_done below,
+          ) (ap (λ s. s.receipts) made.receipts) room below moved;
+    }
 
 pub client_runs : (caps : Caps) (capacity : ℕ) (script : List ClientStep) (limit : ℕ) (old new : SeatLog)
     (stint : Stint) → new.number ≡ old.number
@@ -306,6 +330,22 @@ client_runs caps capacity script limit old new stint number runs = record {
   runs = runs;
   accepts = omega (arith, accepts_by old.receipts new.receipts runs.calls runs.receipts, runs.short);
 }
+
+pub submits_full : (caps : Caps) (capacity : ℕ) (script : List ClientStep) (limit : ℕ) (old mid new : SeatLog)
+    (turn at : ℕ) (e : ClientStep) (reply : Reply) → SubmitsSoFar caps capacity script old mid turn at
+    → IsSeatStep caps capacity mid new (submission_of_client_step mid.number (get_or script at e)) reply
+    → is_history_full reply ≡ true → at < length script → turn < limit
+    → RunsClient caps capacity script limit old new (record { turns = turn + 1; ended = HistoryFull })
+submits_full caps capacity script limit old mid new turn at e reply was made full below within =
+    let call : Step = record { event = submission_of_client_step mid.number (get_or script at e); reply = reply } in
+    let so = was.so_far in
+    client_runs caps capacity script limit old new (record { turns = turn + 1; ended = HistoryFull })
+    (ap (λ s. s.number) made.receipts ∙ was.number)
+    (ends_full (NextSubmission caps capacity old script) (length script) limit old.receipts mid.receipts new.receipts
+    turn at call so (
+      answered_so caps capacity old.receipts mid.receipts so.calls call so.receipts made.answered,
+      client_next old.number mid.number script at e so.calls was.number so.steps_done below,
+    ) (ap (λ s. s.receipts) made.receipts) full below within)
 
 -- ---- the administrator
 
@@ -335,23 +375,18 @@ admin_next script at asks e calls w through below d =
 pub asks_more : (caps : Caps) (capacity : ℕ) (script : List Command) (old mid new : List Step) (turn at after : ℕ)
     (asks : Bool) (e : Command) (reply : Reply)
     → AsksSoFar caps capacity script old mid turn at asks
-    → IsAnsweredFor caps capacity mid (cond {A = Event} asks Poll (Issue (get_or script at e))) reply
-    → new ≡ history_after mid (record {
-      event = cond {A = Event} asks Poll (Issue (get_or script at e));
-      reply =
-          reply;
-    })
+    → IsAdminStep caps capacity mid new (cond {A = Event} asks Poll (Issue (get_or script at e))) reply
     → is_history_full reply ≡ false → at < length script → after ≡ at + cond {A = ℕ} (goes_on reply) 1 0
     → AsksSoFar caps capacity script old new (turn + 1) after (not (goes_on reply))
 unfolding so_far_more
-asks_more caps capacity script old mid new turn at after asks e reply was answer is room below moved =
+asks_more caps capacity script old mid new turn at after asks e reply was made room below moved =
     let call : Step = record { event = cond {A = Event} asks Poll (Issue (get_or script at e)); reply = reply } in
     record {
       so_far = so_far_more (NextCommand caps capacity old script) (length script) old mid new turn at after call
           was.so_far (
-            answered_so caps capacity old mid was.so_far.calls call was.so_far.receipts answer,
+            answered_so caps capacity old mid was.so_far.calls call was.so_far.receipts made.answered,
             admin_next script at asks e was.so_far.calls was.waits was.so_far.steps_done below,
-          ) is room
+          ) made.receipts room
           below moved;
       waits = waits_more was.so_far.calls call;
     }
@@ -359,17 +394,12 @@ asks_more caps capacity script old mid new turn at after asks e reply was answer
 pub asks_full : (caps : Caps) (capacity : ℕ) (script : List Command) (limit : ℕ) (old mid new : List Step)
     (turn at : ℕ) (asks : Bool) (e : Command) (reply : Reply)
     → AsksSoFar caps capacity script old mid turn at asks
-    → IsAnsweredFor caps capacity mid (cond {A = Event} asks Poll (Issue (get_or script at e))) reply
-    → new ≡ history_after mid (record {
-      event = cond {A = Event} asks Poll (Issue (get_or script at e));
-      reply =
-          reply;
-    })
+    → IsAdminStep caps capacity mid new (cond {A = Event} asks Poll (Issue (get_or script at e))) reply
     → is_history_full reply ≡ true → at < length script → turn < limit
     → RunsAdmin caps capacity script limit old new (record { turns = turn + 1; ended = HistoryFull })
-asks_full caps capacity script limit old mid new turn at asks e reply was answer is full below within =
+asks_full caps capacity script limit old mid new turn at asks e reply was made full below within =
     let call : Step = record { event = cond {A = Event} asks Poll (Issue (get_or script at e)); reply = reply } in
     ends_full (NextCommand caps capacity old script) (length script) limit old mid new turn at call was.so_far (
-      answered_so caps capacity old mid was.so_far.calls call was.so_far.receipts answer,
+      answered_so caps capacity old mid was.so_far.calls call was.so_far.receipts made.answered,
       admin_next script at asks e was.so_far.calls was.waits was.so_far.steps_done below,
-    ) is full below within
+    ) made.receipts full below within

@@ -65,6 +65,18 @@ pub struct Stint {
     pub ended: WorkerEnd,
 }
 
+// So many turns, ended in that way.
+macro_rules! stint {
+    ($turns:expr, $ended:ident) => {
+        Stint {
+            turns: $turns,
+            ended: WorkerEnd::$ended,
+        }
+    };
+}
+
+pub(crate) use stint;
+
 /// What each worker did: clients first, then engines, then the administrator.
 #[derive(Drop)]
 pub struct RunReport<A: Allocator = Global> {

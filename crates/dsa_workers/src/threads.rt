@@ -5,7 +5,7 @@ ghost use Rattle.dsa_workers.specs.Calls.{HasRoomForTickets};
 ghost use Rattle.dsa_workers.specs.Workers.{ReportsClients, ReportsEngines, RunsAdmin, IsFitting, stint_at, receipts_in};
 
 use crate::lanes::{Lane, Spare, idle, unload};
-use crate::run::{Rest, run_all};
+use crate::run::Rest;
 use crate::scripts::{Gate, Run, RunFault, RunReport, Scripts};
 use crate::tickets::Tickets;
 use dsa_shared::{AdminSeat, ClientSeat, EngineSeat, Seats, SharedDevice, Sharing};
@@ -24,72 +24,68 @@ struct Rooms<L: Sharing, A: Allocator> {
     report: RunReport<A>,
 }
 
-// Puts the seats into lanes, runs all workers, and puts the seats back.
-fn run_loaded<
-    S: EntryStore + Send,
-    L: Sharing + Send + Sync,
-    G: Gate + Sync,
-    A: Allocator + Send,
-    R: Threads + Wait + Sync,
->(
-    rt: &R,
-    run: &Run<S, L, G>,
-    scripts: &Scripts,
-    rooms: Rooms<L, A>,
-    clients: &mut Vec<ClientSeat<L>>,
-    engines: &mut Vec<EngineSeat<L>>,
-    admin: AdminSeat<L>,
-) -> (AdminSeat<L>, RunReport<A>)
-    requires scripts { (vec_len clients.old ≡ vec_len scripts.now.clients)
-        × (vec_len engines.old ≡ vec_len scripts.now.engines) }
-    requires workers { vec_len clients.old + vec_len engines.old + 1 < 2 ^ 64 }
-    requires client_rooms { (vec_len rooms.clients.tickets ≡ vec_len clients.old)
-        × All (λ t. HasRoomForTickets t 0) rooms.clients.tickets.items }
-    requires engine_rooms { (vec_len rooms.engines.tickets ≡ vec_len engines.old)
-        × All (λ t. HasRoomForTickets t run.now.turns) rooms.engines.tickets.items }
-    requires report { (vec_len rooms.report.turns ≡ 0)
-        × (vec_len rooms.report.ended ≡ 0)
-        × (vec_len clients.old + vec_len engines.old + 1 ≤ vec_capacity rooms.report.turns)
-        × (vec_len clients.old + vec_len engines.old + 1 ≤ vec_capacity rooms.report.ended) }
-    ensures clients { ReportsClients L.caps L.capacity scripts.now.clients.items run.now.turns
-        clients.old.items clients.new.items result.1 }
-    ensures engines { ReportsEngines L.caps L.capacity scripts.now.engines.items run.now.turns
-        (vec_len clients.old) engines.old.items engines.new.items result.1 }
-    ensures admin { RunsAdmin L.caps L.capacity scripts.now.admin.items run.now.turns admin result.0
-        (stint_at result.1 (vec_len clients.old + vec_len engines.old)) }
-    ensures len { (length clients.new.items ≡ length clients.old.items)
-        × (length engines.new.items ≡ length engines.old.items) }
-    ensures items { (vec_len result.1.turns ≡ vec_len clients.old + vec_len engines.old + 1)
-        × (vec_len result.1.ended ≡ vec_len clients.old + vec_len engines.old + 1) }
-{
-    let Rooms {
-        clients: client_spare,
-        engines: engine_spare,
-        admin: admin_tickets,
-        report,
-    } = rooms;
-    let mut report = report;
-    let mut client_lanes = client_spare.load(clients, 0);
-    let engine_lanes = engine_spare.load(engines, run.turns);
-    let mut rest = Rest {
-        engines: engine_lanes,
-        admin: idle(admin, admin_tickets),
-    };
-    run_all(rt, run, scripts, &mut client_lanes, &mut rest);
-    let Rest {
-        engines: engine_lanes,
-        admin: admin_lane,
-    } = rest;
-    unload(client_lanes, clients, &mut report);
-    unload(engine_lanes, engines, &mut report);
-    let Lane {
-        seat,
-        tickets: _,
-        stint,
-    } = admin_lane;
-    report.turns.push_reserved(stint.turns);
-    report.ended.push_reserved(stint.ended);
-    (seat, report)
+impl<S: EntryStore + Send, L: Sharing + Send + Sync, G: Gate + Sync> Run<'_, S, L, G> {
+    // Puts the seats into lanes, runs all workers, and puts the seats back.
+    fn run_loaded<A: Allocator + Send, R: Threads + Wait + Sync>(
+        &self,
+        rt: &R,
+        scripts: &Scripts,
+        rooms: Rooms<L, A>,
+        clients: &mut Vec<ClientSeat<L>>,
+        engines: &mut Vec<EngineSeat<L>>,
+        admin: AdminSeat<L>,
+    ) -> (AdminSeat<L>, RunReport<A>)
+        requires scripts { (vec_len clients.old ≡ vec_len scripts.now.clients)
+            × (vec_len engines.old ≡ vec_len scripts.now.engines) }
+        requires workers { vec_len clients.old + vec_len engines.old + 1 < 2 ^ 64 }
+        requires client_rooms { (vec_len rooms.clients.tickets ≡ vec_len clients.old)
+            × All (λ t. HasRoomForTickets t 0) rooms.clients.tickets.items }
+        requires engine_rooms { (vec_len rooms.engines.tickets ≡ vec_len engines.old)
+            × All (λ t. HasRoomForTickets t self.now.turns) rooms.engines.tickets.items }
+        requires report { (vec_len rooms.report.turns ≡ 0)
+            × (vec_len rooms.report.ended ≡ 0)
+            × (vec_len clients.old + vec_len engines.old + 1 ≤ vec_capacity rooms.report.turns)
+            × (vec_len clients.old + vec_len engines.old + 1 ≤ vec_capacity rooms.report.ended) }
+        ensures clients { ReportsClients L.caps L.capacity scripts.now.clients.items self.now.turns
+            clients.old.items clients.new.items result.1 }
+        ensures engines { ReportsEngines L.caps L.capacity scripts.now.engines.items self.now.turns
+            (vec_len clients.old) engines.old.items engines.new.items result.1 }
+        ensures admin { RunsAdmin L.caps L.capacity scripts.now.admin.items self.now.turns admin
+            result.0 (stint_at result.1 (vec_len clients.old + vec_len engines.old)) }
+        ensures len { (length clients.new.items ≡ length clients.old.items)
+            × (length engines.new.items ≡ length engines.old.items) }
+        ensures items { (vec_len result.1.turns ≡ vec_len clients.old + vec_len engines.old + 1)
+            × (vec_len result.1.ended ≡ vec_len clients.old + vec_len engines.old + 1) }
+    {
+        let Rooms {
+            clients: client_spare,
+            engines: engine_spare,
+            admin: admin_tickets,
+            report,
+        } = rooms;
+        let mut report = report;
+        let mut client_lanes = client_spare.load(clients, 0);
+        let engine_lanes = engine_spare.load(engines, self.turns);
+        let mut rest = Rest {
+            engines: engine_lanes,
+            admin: idle(admin, admin_tickets),
+        };
+        self.run_all(rt, scripts, &mut client_lanes, &mut rest);
+        let Rest {
+            engines: engine_lanes,
+            admin: admin_lane,
+        } = rest;
+        unload(client_lanes, clients, &mut report);
+        unload(engine_lanes, engines, &mut report);
+        let Lane {
+            seat,
+            tickets: _,
+            stint,
+        } = admin_lane;
+        report.turns.push_reserved(stint.turns);
+        report.ended.push_reserved(stint.ended);
+        (seat, report)
+    }
 }
 
 /// Runs each worker in a thread of its own over the seat that it is lent. The administrator's is
@@ -166,7 +162,7 @@ pub fn run_threads<
         gate,
         turns,
     };
-    let (seat, report) = run_loaded(rt, &run, scripts, rooms, clients, engines, seat);
+    let (seat, report) = run.run_loaded(rt, scripts, rooms, clients, engines, seat);
     *admin = Some(seat);
     Ok(report)
 }

@@ -60,6 +60,7 @@ fn is_complete<L: Sharing, A: Allocator>(seats: &Seats<L, A>, clients: u16, engi
     has_each(&seats.engines, engines)
 }
 
+// Where all match, one walk over the history tells it. Else each seat has a walk of its own.
 fn mismatch<L: Sharing, A: Allocator>(
     history: &[Step],
     seats: &Seats<L, A>,
@@ -77,24 +78,6 @@ fn mismatch<L: Sharing, A: Allocator>(
     if all_match(history, seats) {
         return None;
     }
-    mismatch_by_seat(history, seats, clients, engines)
-}
-
-// The same seat by seat, each with a walk over the history.
-fn mismatch_by_seat<L: Sharing, A: Allocator>(
-    history: &[Step],
-    seats: &Seats<L, A>,
-    clients: u16,
-    engines: u16,
-) -> Option<u64>
-    requires { IsComplete seats.now.clients.items seats.now.engines.items
-        seats.now.admin clients engines }
-    ensures some { IfSome result
-        (IsFirstMismatch history.now seats.now.clients.items seats.now.engines.items
-        seats.now.admin) }
-    ensures none { IfNone result (Match history.now seats.now.clients.items seats.now.engines.items
-        seats.now.admin) }
-{
     let Some(admin) = &seats.admin else {
         unreachable!()
     };

@@ -44,21 +44,8 @@ impl Row {
 }
 
 #[test]
-fn middle(rt: HostRuntime) {
-    Row::Middle.both_pass(&rt, rt.alloc());
-}
-
-#[test]
-fn left(rt: HostRuntime) {
-    Row::Left.both_pass(&rt, rt.alloc());
-}
-
-#[test]
-fn given_back(rt: HostRuntime) {
-    Row::GivenBack.both_pass(&rt, rt.alloc());
-}
-
-#[test]
-fn written(rt: HostRuntime) {
-    Row::Written.both_pass(&rt, rt.alloc());
+fn rows_of_both_stores(rt: HostRuntime) {
+    for row in [Row::Middle, Row::Left, Row::GivenBack, Row::Written] {
+        row.both_pass(&rt, rt.alloc());
+    }
 }

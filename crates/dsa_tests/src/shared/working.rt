@@ -397,37 +397,23 @@ where
     }
 }
 
-#[test]
-fn busy_workers(rt: HostRuntime) {
-    over_both_stores(&rt, rt.alloc(), Trial::BusyRun);
-}
+const SHORT: [Trial; 6] = [
+    Trial::BusyRun,
+    Trial::HistoryFills,
+    Trial::WorkersMeet,
+    Trial::IdleAtFirst,
+    Trial::ActiveAtFirst,
+    Trial::NothingIsDone,
+];
 
 #[test]
-fn history_fills_meanwhile(rt: HostRuntime) {
-    over_both_stores(&rt, rt.alloc(), Trial::HistoryFills);
-}
-
-#[test]
-fn workers_at_the_same_time(rt: HostRuntime) {
-    over_both_stores(&rt, rt.alloc(), Trial::WorkersMeet);
-}
-
-#[test]
-fn engines_with_nothing_to_do_at_first(rt: HostRuntime) {
-    over_both_stores(&rt, rt.alloc(), Trial::IdleAtFirst);
-}
-
-#[test]
-fn command_that_is_active_at_first(rt: HostRuntime) {
-    over_both_stores(&rt, rt.alloc(), Trial::ActiveAtFirst);
+fn workers(rt: HostRuntime) {
+    for trial in SHORT {
+        over_both_stores(&rt, rt.alloc(), trial);
+    }
 }
 
 #[test]
 fn long_scripts(rt: HostRuntime) {
     over_both_stores(&rt, rt.alloc(), Trial::LongScripts);
-}
-
-#[test]
-fn scripts_with_nothing_to_do(rt: HostRuntime) {
-    over_both_stores(&rt, rt.alloc(), Trial::NothingIsDone);
 }

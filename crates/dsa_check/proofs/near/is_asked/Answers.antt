@@ -2,7 +2,7 @@ use Rattle.dsa_check.proofs.near.is_asked.Goals as goal
 use Rattle.std.proofs.Common.{rules, ◌≡◌}
 use Rattle.std.proofs.lemmas.Iterator.{YieldsList-from_slice, Search.{any_from_yields_List}}
 use Rattle.std.specs.{Prelude.{bytes_eq, codes}, List.{list_any}}
-use Rattle.dsa_check.specs.declared.fields.Field.{Field}
+use Rattle.dsa_scenario.specs.declared.fields.Field.{Field}
 use Rattle.dsa_check.proofs.Keys.{asked_by}
 use borrow.Author.Tests.{tests}
 

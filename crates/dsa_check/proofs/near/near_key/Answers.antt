@@ -4,7 +4,8 @@ use Rattle.std.proofs.Common.{rules, ◌≡◌, ℕ, List, [], ◌∷◌, Bor, m
 use Rattle.std.specs.Prelude.{String, string_bytes}
 use Rattle.std.specs.declared.alloc.Global.{Global}
 use Rattle.serde_json.specs.View.{view}
-use Rattle.dsa_check.specs.{Reasons.{stray_distance}, Steps.{row_of_field}}
+use Rattle.dsa_scenario.specs.Fields.{row_of_field}
+use Rattle.dsa_check.specs.Reasons.{stray_distance}
 use Rattle.dsa_check.proofs.{Keys.{finds_in}, Nearest.{keys_in, taken, passed, stray_of}}
 
 pub loop-other-init : goal.loop-other-init

@@ -2,7 +2,8 @@ use Rattle.std.proofs.Common.{◌≡◌, true, map, option_map, is_some, IfSome,
 use Rattle.std.specs.declared.alloc.Global.{Global}
 use Rattle.std.specs.List.{AllByRecursion}
 use Rattle.serde_json.specs.{View.{view}, Find.{get}}
-use Rattle.dsa_check.specs.{Steps.{row_of_field}, Reasons.{IsStrayKey, nearest_below, stray_distance, near_key}}
+use Rattle.dsa_scenario.specs.Fields.{row_of_field}
+use Rattle.dsa_check.specs.Reasons.{IsStrayKey, nearest_below, stray_distance, near_key}
 use Rattle.dsa_check.proofs.near.near_key.Given as goal
 
 abbrev pub invariant-loop-other : goal.invariant-loop-other

@@ -1,8 +1,9 @@
 use Rattle.dsa_check.proofs.near.near_kind.Goals as goal
 use Rattle.std.proofs.Common.{◌≡◌, [], drop, refl, sym, ◌∙◌, ap}
 use Rattle.std.proofs.lemmas.List.{drop_more, drop_all}
-use Rattle.dsa_check.specs.{Lines.{kind_text}, Reasons.{distance_of, near_kind}, Steps.{kinds}}
-use Rattle.dsa_check.specs.declared.kinds.StepKind.{TheVariants.{Queue}}
+use Rattle.dsa_scenario.specs.Actions.{kinds, kind_text}
+use Rattle.dsa_scenario.specs.declared.actions.StepKind.{TheVariants.{Queue}}
+use Rattle.dsa_check.specs.Reasons.{distance_of, near_kind}
 use Rattle.dsa_check.proofs.Nearest.{taken, passed}
 use Rattle.dsa_check.proofs.near.near_kind.Goals.{then-is_below, else-is_below}
 

@@ -1,5 +1,6 @@
 use Rattle.std.proofs.Common.{◌≡◌, drop}
-use Rattle.dsa_check.specs.{Lines.{kind_text}, Reasons.{distance_of, nearest_below, near_kind}}
+use Rattle.dsa_scenario.specs.Actions.{kind_text}
+use Rattle.dsa_check.specs.Reasons.{distance_of, nearest_below, near_kind}
 use Rattle.dsa_check.proofs.near.near_kind.Given as goal
 
 abbrev pub invariant-loop-kind : goal.invariant-loop-kind

@@ -2,7 +2,7 @@ use Rattle.dsa_check.proofs.near_rows.kinds_that_are_told.Goals as goal
 use Rattle.std.proofs.Common.{◌≡◌, refl}
 use Rattle.std.specs.Prelude.{Some, None}
 use Rattle.std.proofs.lemmas.Bool.{false≢true}
-use Rattle.dsa_check.specs.declared.kinds.StepKind.{TheVariants.{Poll, Clear}}
+use Rattle.dsa_scenario.specs.declared.actions.StepKind.{TheVariants.{Poll, Clear}}
 use Rattle.dsa_check.specs.Worked.{near_on_literals}
 
 pub returns : goal.returns

@@ -2,7 +2,7 @@ use Rattle.dsa_check.proofs.reasons.add_caps_reasons.Goals as goal
 use Rattle.std.proofs.Common.{rules, ◌≡◌, true}
 use Rattle.std.specs.Prelude.{Some, is_some}
 use Rattle.serde_json.specs.{View.{view}, Find.{as_object}}
-use Rattle.dsa_check.specs.{Findings.{AreInCaps}, Reasons.{AreReasonsOf}, Steps.{caps_rows}}
+use Rattle.dsa_check.specs.{Findings.{AreInCaps}, Reasons.{AreReasonsOf}, Tables.{caps_rows}}
 use Rattle.dsa_check.proofs.Told.{appends_weaker_to, inside_caps}
 
 pub returns-in-Some : goal.returns-in-Some

@@ -1,7 +1,7 @@
 use Rattle.dsa_check.proofs.reasons.add_reasons.Goals as goal
 use Rattle.serde_json.specs.View.{view}
 use Rattle.std.proofs.Common.{map, arith}
-use Rattle.dsa_check.specs.Steps.{row_of_field}
+use Rattle.dsa_scenario.specs.Fields.{row_of_field}
 use Rattle.dsa_check.proofs.Told.{reasons_more}
 use Rattle.std.proofs.lemmas.Grind.{common_steps}
 

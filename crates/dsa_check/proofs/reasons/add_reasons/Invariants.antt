@@ -3,7 +3,7 @@ use Rattle.std.proofs.Common.{map, take}
 use Rattle.serde_json.specs.View.{view}
 use Rattle.dsa_check.specs.Findings.{Appends}
 use Rattle.dsa_check.specs.Reasons.{AreReasonsAt}
-use Rattle.dsa_check.specs.Steps.{row_of_field}
+use Rattle.dsa_scenario.specs.Fields.{row_of_field}
 
 abbrev pub invariant-loop-field : goal.invariant-loop-field
 invariant-loop-field l =

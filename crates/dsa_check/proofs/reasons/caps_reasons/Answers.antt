@@ -1,7 +1,7 @@
 use Rattle.dsa_check.proofs.reasons.caps_reasons.Goals as goal
 use Rattle.std.proofs.Common.{false}
 use Rattle.serde_json.specs.View.{view}
-use Rattle.dsa_check.specs.{Reasons.{AreReasonsOf}, Steps.{device_rows}}
+use Rattle.dsa_check.specs.{Reasons.{AreReasonsOf}, Tables.{device_rows}}
 use Rattle.dsa_check.proofs.Told.{appended_first}
 
 pub returns : goal.returns

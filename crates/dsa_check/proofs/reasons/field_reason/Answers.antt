@@ -1,7 +1,7 @@
 use Rattle.dsa_check.proofs.reasons.field_reason.Goals as goal
 use Rattle.std.proofs.Common.{map, refl}
 use Rattle.serde_json.specs.View.{view}
-use Rattle.dsa_check.specs.Steps.{row_of_field}
+use Rattle.dsa_scenario.specs.Fields.{row_of_field}
 use Rattle.dsa_check.proofs.Told.{missing_at, misspelled_at, unfit_at}
 
 pub returns-in-Some-3-clause-so : goal.returns-in-Some-3-clause-so

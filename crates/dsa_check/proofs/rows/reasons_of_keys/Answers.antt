@@ -2,7 +2,7 @@ use Rattle.dsa_check.proofs.rows.reasons_of_keys.Goals as goal
 use Rattle.std.proofs.Common.{◌≡◌, List, [], ◌∷◌, false, length, length-append, codes, ap, arith, refl}
 use Rattle.serde_json.specs.Find.{get}
 use Rattle.dsa_check.specs.declared.finding.Reason.{Reason, TheVariants.{Missing}}
-use Rattle.dsa_check.specs.{Findings.{AreInCaps}, Reasons.{AreReasonsOf}, Steps.{document_rows}}
+use Rattle.dsa_check.specs.{Findings.{AreInCaps}, Reasons.{AreReasonsOf}, Tables.{document_rows}}
 use Rattle.dsa_check.specs.Worked.{document_without_slots}
 
 -- there is one reason of the document, and one of its caps

@@ -1,9 +1,10 @@
 use Rattle.dsa_check.proofs.rows.reasons_that_are_not_so.Goals as goal
 use Rattle.std.proofs.Common.{ℕ, ap, arith}
 use Rattle.std.proofs.lemmas.Bool.{false≢true}
-use Rattle.dsa_check.specs.declared.fields.{Form.{Form}, Found.{Found}}
+use Rattle.dsa_scenario.specs.declared.fields.Form.{Form}
+use Rattle.dsa_check.specs.declared.fields.Found.{Found}
 use Rattle.dsa_check.specs.declared.finding.Reason.{Reason, TheVariants.{Unfit, OddDigits, NoDigit}}
-use Rattle.dsa_check.specs.declared.fields.Form.TheVariants as form
+use Rattle.dsa_scenario.specs.declared.fields.Form.TheVariants as form
 use Rattle.dsa_check.specs.declared.fields.Found.TheVariants as found
 
 -- what is found, the most that is wanted, and how many digits or which place a reason has

@@ -4,17 +4,8 @@ use Rattle.std.proofs.Common.{ℕ, List, length, refl, sym, ap, append-nil, arit
 pub returns-clause-served : goal.returns-clause-served
 returns-clause-served c input output answers = (input, output, sym (append-nil input), refl, answers, refl)
 
-pub returns-clause-given : goal.returns-clause-given
-returns-clause-given c had left held holds served = served.2
-
-pub returns-clause-to_its_end : goal.returns-clause-to_its_end
-returns-clause-to_its_end c had left held holds served = served.3
-
-pub returns-clause-answered : goal.returns-clause-answered
-returns-clause-answered c had left held holds served = served.4
-
-pub returns-clause-written : goal.returns-clause-written
-returns-clause-written c had left held holds served = served.5
+pub returns-clause-all : goal.returns-clause-all
+returns-clause-all c had left held holds served = (served.2, served.3, served.4, served.5)
 
 pub returns-clause-more_to_read : goal.returns-clause-more_to_read
 returns-clause-more_to_read c served = omega (arith, ap (λ (l : List ℕ). length l) served.3)

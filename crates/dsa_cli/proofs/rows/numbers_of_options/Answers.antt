@@ -75,14 +75,5 @@ returns-clause-many_turns c = record {
   turns = λ text has numeral least most. past_bound 40_001 40_000 text (lit< tt) (ap number_in has) most;
 }
 
-pub returns-clause-clients : goal.returns-clause-clients
-returns-clause-clients c rows asked numbers = numbers.clients
-
-pub returns-clause-engines : goal.returns-clause-engines
-returns-clause-engines c rows asked numbers = numbers.engines
-
-pub returns-clause-each : goal.returns-clause-each
-returns-clause-each c rows asked numbers = numbers.each
-
-pub returns-clause-turns : goal.returns-clause-turns
-returns-clause-turns c rows asked numbers = numbers.turns
+pub returns-clause-all : goal.returns-clause-all
+returns-clause-all c rows asked numbers = (numbers.clients, numbers.engines, numbers.each, numbers.turns)

@@ -14,18 +14,12 @@ pub returns-clause-drawing : goal.returns-clause-drawing
 returns-clause-drawing c bytes text is short =
     (report.Draw, refl, (bytes, text, (sym (append-nil bytes), refl, short), (refl, is), refl))
 
-pub returns-clause-asked : goal.returns-clause-asked
-returns-clause-asked c found had left held holds is = is.1
-
 pub returns-clause-reported : goal.returns-clause-reported
-returns-clause-reported c found had left held holds is = is.2
+returns-clause-reported c found had left held holds is = (is.1, is.2)
 
 pub returns-clause-drawing_cut : goal.returns-clause-drawing_cut
 returns-clause-drawing_cut c bytes text is short more =
     (report.Draw, refl, (bytes, text, None, 3, (sym (append-nil bytes), refl, short), (refl, is), more, refl))
 
-pub returns-clause-cut_asked : goal.returns-clause-cut_asked
-returns-clause-cut_asked c found had left held holds is = is.1
-
-pub returns-clause-cut_reported : goal.returns-clause-cut_reported
-returns-clause-cut_reported c found had left held holds is = is.2
+pub returns-clause-cut : goal.returns-clause-cut
+returns-clause-cut c found had left held holds is = (is.1, is.2)

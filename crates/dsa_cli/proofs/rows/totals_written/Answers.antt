@@ -24,32 +24,11 @@ in_range = record {
 pub returns-clause-all : goal.returns-clause-all
 returns-clause-all c totals run = (load 1 2 3 4, totals, numbers, in_range, run, refl)
 
-pub returns-clause-numbers : goal.returns-clause-numbers
-returns-clause-numbers c rows old new are = are.2
-
-pub returns-clause-in_range : goal.returns-clause-in_range
-returns-clause-in_range c rows old new are = are.3
-
-pub returns-clause-of_a_run : goal.returns-clause-of_a_run
-returns-clause-of_a_run c rows old new are = are.4
-
-pub returns-clause-appended : goal.returns-clause-appended
-returns-clause-appended c rows old new are = are.5
+pub returns-clause-written : goal.returns-clause-written
+returns-clause-written c rows old new are = (are.2, are.3, are.4, are.5)
 
 pub returns-clause-first_bytes : goal.returns-clause-first_bytes
 returns-clause-first_bytes c totals run more = (load 1 2 3 4, totals, 3, numbers, in_range, run, more, refl)
 
-pub returns-clause-cut_numbers : goal.returns-clause-cut_numbers
-returns-clause-cut_numbers c rows old new are = are.3
-
-pub returns-clause-cut_in_range : goal.returns-clause-cut_in_range
-returns-clause-cut_in_range c rows old new are = are.4
-
-pub returns-clause-cut_of_a_run : goal.returns-clause-cut_of_a_run
-returns-clause-cut_of_a_run c rows old new are = are.5
-
-pub returns-clause-cut_short : goal.returns-clause-cut_short
-returns-clause-cut_short c rows old new are = are.6
-
-pub returns-clause-cut_appended : goal.returns-clause-cut_appended
-returns-clause-cut_appended c rows old new are = are.7
+pub returns-clause-cut : goal.returns-clause-cut
+returns-clause-cut c rows old new are = (are.3, are.4, are.5, are.6, are.7)

@@ -1,13 +1,28 @@
 use Rattle.dsa_book.specs.declared.event.Event.TheVariants as event
 use Rattle.dsa_book.specs.declared.answer.Reply.TheVariants as reply
 use Rattle.dsa_shared.proofs.locked.dispatch.Goals as goal
-use Rattle.dsa_shared.proofs.Steps.{answered_for, answered_seat}
+use Rattle.std.proofs.Common.{ap}
+use Rattle.dsa_shared.proofs.Steps.{Owed, owed, seat_step}
+use Rattle.dsa_shared.proofs.locked.dispatch.{Given.{Over}, Goals.{After-dispatch-answer}}
 
-pub returns-clause-answered : goal.returns-clause-answered
-returns-clause-answered g c =
-    answered_seat _ _ (record { number = c.seat.inside.number; receipts = c.seat.inside.receipts.steps })
-    c.args.seat.now (λ number. event.Dispatch number) (reply.Dispatch c.dispatch-answer.result) c.seat.view_is
-    (answered_for _ _ c.seat.inside.receipts.steps c.history-before.result.now
-    c.locked.inside.device c.dispatch-answer.new.self (event.Dispatch c.seat.inside.number)
-    (reply.Dispatch c.dispatch-answer.result) c.state_is_replay.ensures.replay c.locked.invariant.2 c.locked.invariant.1
-    c.history-before.ensures c.note.ensures.seen c.dispatch-answer.ensures)
+owes : (g : Over) (c : After-dispatch-answer g) → Owed g.L.Sharing.caps g.L.Sharing.capacity
+    c.history-before.result.now c.dispatch-answer.new.self
+    (λ number. event.Dispatch number) c.seat.inside.number
+    (reply.Dispatch c.dispatch-answer.result)
+owes g c = owed _ _ _ _ _ _ _ _ c.state_is_replay.ensures.replay c.locked.invariant.1 c.locked.invariant.2
+    c.history-before.ensures c.dispatch-answer.ensures
+
+pub note-requires-clause-grown : goal.note-requires-clause-grown
+note-requires-clause-grown g c =
+    let s = owes g (goal.at.note-requires-clause-grown g c).After-dispatch-answer in
+    (s.same_capacity, s.grown.0, s.grown.1)
+
+pub invariant_of-locked : goal.invariant_of-locked
+invariant_of-locked g c =
+    let s = owes g (goal.at.invariant_of-locked g c).After-dispatch-answer in
+    (c.note.ensures.total, s.same_capacity, s.same_caps)
+
+pub returns-clause-seat : goal.returns-clause-seat
+returns-clause-seat g c =
+    let s = owes g (goal.at.returns-clause-seat g c).After-dispatch-answer in
+    seat_step _ _ _ _ _ _ _ _ _ _ s c.seat.view_is c.note.ensures.seen (ap (λ n. n.steps) c.note.ensures.noted)

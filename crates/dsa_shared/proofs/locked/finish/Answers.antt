@@ -1,49 +1,28 @@
 use Rattle.dsa_book.specs.declared.event.Event.TheVariants as event
 use Rattle.dsa_book.specs.declared.answer.Reply.TheVariants as reply
 use Rattle.dsa_shared.proofs.locked.finish.Goals as goal
-use Rattle.std.proofs.Common.{ap, ◌∙◌}
-use Rattle.dsa_device.proofs.Steps.{grows}
-use Rattle.dsa_shared.proofs.Steps.{answered_for, answered_seat, within, gained, seat_after}
+use Rattle.std.proofs.Common.{ap}
+use Rattle.dsa_shared.proofs.Steps.{Owed, owed, seat_step}
+use Rattle.dsa_shared.proofs.locked.finish.{Given.{Over}, Goals.{After-finish-answer}}
 
-pub note-requires-clause-capacity : goal.note-requires-clause-capacity
-note-requires-clause-capacity g c =
-    (grows c.locked.inside.device c.finish-answer.new.self
-    (event.Finish c.seat.inside.number c.args.ticket c.args.outcome) (reply.Finish c.finish-answer.result)
-    c.finish-answer.ensures).capacity ∙ c.locked.invariant.1
+owes : (g : Over) (c : After-finish-answer g) → Owed g.L.Sharing.caps g.L.Sharing.capacity
+    c.history-before.result.now c.finish-answer.new.self
+    (λ number. event.Finish number c.args.ticket c.args.outcome) c.seat.inside.number
+    (reply.Finish c.finish-answer.result)
+owes g c = owed _ _ _ _ _ _ _ _ c.state_is_replay.ensures.replay c.locked.invariant.1 c.locked.invariant.2
+    c.history-before.ensures c.finish-answer.ensures
 
 pub note-requires-clause-grown : goal.note-requires-clause-grown
 note-requires-clause-grown g c =
-    within c.history-before.result.now c.locked.inside.device c.finish-answer.new.self
-    (event.Finish c.seat.inside.number c.args.ticket c.args.outcome) (reply.Finish c.finish-answer.result)
-    c.history-before.ensures c.finish-answer.ensures
+    let s = owes g (goal.at.note-requires-clause-grown g c).After-finish-answer in
+    (s.same_capacity, s.grown.0, s.grown.1)
 
 pub invariant_of-locked : goal.invariant_of-locked
 invariant_of-locked g c =
-    let s = grows c.locked.inside.device c.finish-answer.new.self
-    (event.Finish c.seat.inside.number c.args.ticket c.args.outcome)
-    (reply.Finish c.finish-answer.result) c.finish-answer.ensures in
-    (c.note.ensures.total, s.capacity ∙ c.locked.invariant.1, s.caps ∙ c.locked.invariant.2)
+    let s = owes g (goal.at.invariant_of-locked g c).After-finish-answer in
+    (c.note.ensures.total, s.same_capacity, s.same_caps)
 
-pub returns-clause-receipts : goal.returns-clause-receipts
-returns-clause-receipts g c =
-    let receipts = ap (λ r. r.steps) c.note.ensures.noted
-    ∙ gained c.seat.inside.receipts.steps c.history-before.result.now c.locked.inside.device c.finish-answer.new.self
-    (event.Finish c.seat.inside.number c.args.ticket c.args.outcome) (reply.Finish c.finish-answer.result)
-    c.history-before.ensures c.finish-answer.ensures in
-    seat_after (record {
-      number = c.seat.inside.number;
-      receipts =
-          c.seat.inside.receipts.steps;
-    }) c.args.seat.now c.note.new.self.steps
-    (λ number. event.Finish number c.args.ticket c.args.outcome)
-    (reply.Finish c.finish-answer.result) c.seat.view_is receipts
-
-pub returns-clause-answered : goal.returns-clause-answered
-returns-clause-answered g c =
-    answered_seat _ _ (record { number = c.seat.inside.number; receipts = c.seat.inside.receipts.steps })
-    c.args.seat.now (λ number. event.Finish number c.args.ticket c.args.outcome)
-    (reply.Finish c.finish-answer.result) c.seat.view_is
-    (answered_for _ _ c.seat.inside.receipts.steps c.history-before.result.now
-    c.locked.inside.device c.finish-answer.new.self (event.Finish c.seat.inside.number c.args.ticket c.args.outcome)
-    (reply.Finish c.finish-answer.result) c.state_is_replay.ensures.replay c.locked.invariant.2 c.locked.invariant.1
-    c.history-before.ensures c.note.ensures.seen c.finish-answer.ensures)
+pub returns-clause-seat : goal.returns-clause-seat
+returns-clause-seat g c =
+    let s = owes g (goal.at.returns-clause-seat g c).After-finish-answer in
+    seat_step _ _ _ _ _ _ _ _ _ _ s c.seat.view_is c.note.ensures.seen (ap (λ n. n.steps) c.note.ensures.noted)

@@ -1,17 +1,28 @@
 use Rattle.dsa_book.specs.declared.event.Event.TheVariants as event
 use Rattle.dsa_book.specs.declared.answer.Reply.TheVariants as reply
 use Rattle.dsa_shared.proofs.locked.poll.Goals as goal
-use Rattle.dsa_shared.{specs.Locked.{IsAnsweredFor}, proofs.Steps.{answered_for}}
-use Rattle.std.proofs.Common.{arith, subst}
-use Rattle.std.proofs.lemmas.Grind.{common_steps}
+use Rattle.std.proofs.Common.{ap}
+use Rattle.dsa_shared.proofs.Steps.{Owed, owed, admin_step}
+use Rattle.dsa_shared.proofs.locked.poll.{Given.{Over}, Goals.{After-poll-answer}}
+
+owes : (g : Over) (c : After-poll-answer g) → Owed g.L.Sharing.caps g.L.Sharing.capacity
+    c.history-before.result.now c.poll-answer.new.self
+    (λ _. event.Poll) 0
+    (reply.Poll c.poll-answer.result)
+owes g c = owed _ _ _ _ _ _ _ _ c.state_is_replay.ensures.replay c.locked.invariant.1 c.locked.invariant.2
+    c.history-before.ensures c.poll-answer.ensures
 
 pub note-requires-clause-grown : goal.note-requires-clause-grown
-note-requires-clause-grown = grind (arith, common_steps)
+note-requires-clause-grown g c =
+    let s = owes g (goal.at.note-requires-clause-grown g c).After-poll-answer in
+    (s.same_capacity, s.grown.0, s.grown.1)
 
-pub returns-clause-answered : goal.returns-clause-answered
-returns-clause-answered g c =
-    subst (λ receipts. IsAnsweredFor _ _ receipts event.Poll (reply.Poll c.poll-answer.result)) c.seat.view_is
-    (answered_for _ _ c.seat.inside.receipts.steps c.history-before.result.now
-    c.locked.inside.device c.poll-answer.new.self event.Poll
-    (reply.Poll c.poll-answer.result) c.state_is_replay.ensures.replay c.locked.invariant.2 c.locked.invariant.1
-    c.history-before.ensures c.note.ensures.seen c.poll-answer.ensures)
+pub invariant_of-locked : goal.invariant_of-locked
+invariant_of-locked g c =
+    let s = owes g (goal.at.invariant_of-locked g c).After-poll-answer in
+    (c.note.ensures.total, s.same_capacity, s.same_caps)
+
+pub returns-clause-seat : goal.returns-clause-seat
+returns-clause-seat g c =
+    let s = owes g (goal.at.returns-clause-seat g c).After-poll-answer in
+    admin_step _ _ _ _ _ _ _ _ _ _ s c.seat.view_is c.note.ensures.seen (ap (λ n. n.steps) c.note.ensures.noted)

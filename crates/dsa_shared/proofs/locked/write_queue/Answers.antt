@@ -1,43 +1,28 @@
 use Rattle.dsa_book.specs.declared.event.Event.TheVariants as event
 use Rattle.dsa_book.specs.declared.answer.Reply.TheVariants as reply
 use Rattle.dsa_shared.proofs.locked.write_queue.Goals as goal
-use Rattle.std.proofs.Common.{ap, ◌∙◌, subst}
-use Rattle.dsa_shared.{specs.{Seat.{with_step}, Locked.{IsAnsweredFor}}, proofs.Steps.{answered_for, within, gained}}
-use Rattle.dsa_device.proofs.Steps.{grows}
+use Rattle.std.proofs.Common.{ap}
+use Rattle.dsa_shared.proofs.Steps.{Owed, owed, admin_step}
+use Rattle.dsa_shared.proofs.locked.write_queue.{Given.{Over}, Goals.{After-write_queue-answer}}
 
-pub note-requires-clause-capacity : goal.note-requires-clause-capacity
-note-requires-clause-capacity g c =
-    (grows c.locked.inside.device c.write_queue-answer.new.self (event.WriteQueue c.args.queue c.args.config)
+owes : (g : Over) (c : After-write_queue-answer g) → Owed g.L.Sharing.caps g.L.Sharing.capacity
+    c.history-before.result.now c.write_queue-answer.new.self
+    (λ _. event.WriteQueue c.args.queue c.args.config) 0
     (reply.Write c.write_queue-answer.result)
-    c.write_queue-answer.ensures).capacity ∙ c.locked.invariant.1
+owes g c = owed _ _ _ _ _ _ _ _ c.state_is_replay.ensures.replay c.locked.invariant.1 c.locked.invariant.2
+    c.history-before.ensures c.write_queue-answer.ensures
 
 pub note-requires-clause-grown : goal.note-requires-clause-grown
 note-requires-clause-grown g c =
-    within c.history-before.result.now c.locked.inside.device c.write_queue-answer.new.self
-    (event.WriteQueue c.args.queue c.args.config) (reply.Write c.write_queue-answer.result)
-    c.history-before.ensures c.write_queue-answer.ensures
+    let s = owes g (goal.at.note-requires-clause-grown g c).After-write_queue-answer in
+    (s.same_capacity, s.grown.0, s.grown.1)
 
 pub invariant_of-locked : goal.invariant_of-locked
 invariant_of-locked g c =
-    let s = grows c.locked.inside.device c.write_queue-answer.new.self (event.WriteQueue c.args.queue c.args.config)
-    (reply.Write c.write_queue-answer.result) c.write_queue-answer.ensures in
-    (c.note.ensures.total, s.capacity ∙ c.locked.invariant.1, s.caps ∙ c.locked.invariant.2)
+    let s = owes g (goal.at.invariant_of-locked g c).After-write_queue-answer in
+    (c.note.ensures.total, s.same_capacity, s.same_caps)
 
-pub returns-clause-receipts : goal.returns-clause-receipts
-returns-clause-receipts g c =
-    let receipts = ap (λ r. r.steps) c.note.ensures.noted
-    ∙ gained c.seat.inside.receipts.steps c.history-before.result.now c.locked.inside.device
-    c.write_queue-answer.new.self
-    (event.WriteQueue c.args.queue c.args.config) (reply.Write c.write_queue-answer.result)
-    c.history-before.ensures c.write_queue-answer.ensures in
-    receipts ∙ ap (λ steps. with_step steps (event.WriteQueue c.args.queue c.args.config)
-    (reply.Write c.write_queue-answer.result)) c.seat.view_is
-
-pub returns-clause-answered : goal.returns-clause-answered
-returns-clause-answered g c =
-    subst (λ receipts. IsAnsweredFor _ _ receipts (event.WriteQueue c.args.queue c.args.config)
-    (reply.Write c.write_queue-answer.result)) c.seat.view_is
-    (answered_for _ _ c.seat.inside.receipts.steps c.history-before.result.now
-    c.locked.inside.device c.write_queue-answer.new.self (event.WriteQueue c.args.queue c.args.config)
-    (reply.Write c.write_queue-answer.result) c.state_is_replay.ensures.replay c.locked.invariant.2 c.locked.invariant.1
-    c.history-before.ensures c.note.ensures.seen c.write_queue-answer.ensures)
+pub returns-clause-seat : goal.returns-clause-seat
+returns-clause-seat g c =
+    let s = owes g (goal.at.returns-clause-seat g c).After-write_queue-answer in
+    admin_step _ _ _ _ _ _ _ _ _ _ s c.seat.view_is c.note.ensures.seen (ap (λ n. n.steps) c.note.ensures.noted)

@@ -13,33 +13,16 @@ use Rattle.dsa_shared_rows.proofs.ByKind.{answered_not_by, other_kind}
 use Rattle.dsa_shared_rows.specs.Worked.{asked_first, drain_of_all, end_of_engine, fetch_of_engine, of_client, question}
 use Rattle.dsa_shared_rows.specs.Worked.{started_by_engine, wide_device}
 
-pub returns-clause-submission : goal.returns-clause-submission
-returns-clause-submission c =
-    answered_not_by (of_client 0 submit.Full) (reply.Dispatch dispatch.Full) refl refl (λ s choice. refl) refl
-
-pub returns-clause-dispatched : goal.returns-clause-dispatched
-returns-clause-dispatched c =
-    answered_not_by (asked_first 3 dispatch.Full) (reply.Fetch fetch.Full) refl refl (λ s choice. refl) refl
-
-pub returns-clause-fetched : goal.returns-clause-fetched
-returns-clause-fetched c =
-    answered_not_by (record (fetch_of_engine 3) { reply = reply.Fetch fetch.Full }) (reply.Start start.Full) refl refl (λ s choice. refl) refl
-
-pub returns-clause-started : goal.returns-clause-started
-returns-clause-started c =
-    answered_not_by (started_by_engine 3 start.Full) (reply.Finish finish.Full) refl refl (λ s choice. refl) refl
-
-pub returns-clause-finished : goal.returns-clause-finished
-returns-clause-finished c =
-    answered_not_by (end_of_engine 3 finish.Full) (reply.Issue issue.Full) refl refl (λ s choice. refl) refl
-
-pub returns-clause-issued : goal.returns-clause-issued
-returns-clause-issued c =
-    answered_not_by (drain_of_all issue.Full) (reply.Poll poll.Full) refl refl (λ s choice. refl) refl
-
-pub returns-clause-polled : goal.returns-clause-polled
-returns-clause-polled c =
-    answered_not_by (question poll.Full) (reply.Submit submit.Full) refl refl (λ s choice. refl) refl
+pub returns-clause-by_kind : goal.returns-clause-by_kind
+returns-clause-by_kind c = (
+  answered_not_by (of_client 0 submit.Full) (reply.Dispatch dispatch.Full) refl refl (λ s choice. refl) refl,
+  answered_not_by (asked_first 3 dispatch.Full) (reply.Fetch fetch.Full) refl refl (λ s choice. refl) refl,
+  answered_not_by (record (fetch_of_engine 3) { reply = reply.Fetch fetch.Full }) (reply.Start start.Full) refl refl (λ s choice. refl) refl,
+  answered_not_by (started_by_engine 3 start.Full) (reply.Finish finish.Full) refl refl (λ s choice. refl) refl,
+  answered_not_by (end_of_engine 3 finish.Full) (reply.Issue issue.Full) refl refl (λ s choice. refl) refl,
+  answered_not_by (drain_of_all issue.Full) (reply.Poll poll.Full) refl refl (λ s choice. refl) refl,
+  answered_not_by (question poll.Full) (reply.Submit submit.Full) refl refl (λ s choice. refl) refl,
+)
 
 pub returns-clause-not_answered : goal.returns-clause-not_answered
 returns-clause-not_answered c is =

@@ -1,31 +1,15 @@
 use Rattle.dsa_shared_rows.proofs.workers.engines_run.Goals as goal
-use Rattle.std.proofs.Common.{◌≡◌, ℕ, ◌<◌, zero, suc, List, [], ◌∷◌, Option, Some, None, arith, length, lit≤, refl, slice_index_or, subst}
+use Rattle.std.proofs.Common.{◌≡◌, ◌<◌, List, [], ◌∷◌, Option, Some, None, arith, length, lit≤, refl, slice_index_or, subst}
 use Rattle.std.specs.Prelude.{Bool, option_map, take, true, false}
 use Rattle.dsa_book.specs.{declared.event.Step.{Step}, Machine.{is_stored, stored_steps}}
 use Rattle.dsa_book.specs.declared.event.Event.{Event, TheVariants.{Dispatch, Fetch}}
-use Rattle.dsa_book.specs.declared.answer.{DispatchAnswer.TheVariants.{Taken, Full}, Reply.{Reply}}
-use Rattle.dsa_workers.specs.Calls.{calls_of, engine_event, found_full, tickets_of, InOrder, NextTurn}
+use Rattle.dsa_book.specs.declared.answer.DispatchAnswer.TheVariants.{Taken, Full}
+use Rattle.dsa_book.specs.declared.answer.Reply.{Reply, TheVariants.{Dispatch}}
+use Rattle.dsa_workers.specs.Calls.{calls_of, engine_event, found_full, tickets_of}
+use Rattle.dsa_workers.proofs.Turns.{turns_none, turns_more, turns_full, turns_out}
 use Rattle.dsa_shared_rows.proofs.ByKind.{answered_full, answered_wide}
 use Rattle.dsa_shared_rows.specs.Worked.{asked_first, fetch_of_engine, member_fetched, member_script, seat_of}
 use Rattle.dsa_shared_rows.specs.Worked.{taken_of_client, ticket_named_so, wide_device, wide_with_entry}
-
-taken_first : InOrder (NextTurn wide_device 9 (seat_of 3 (fetch_of_engine 3 ∷ [])) member_script)
-    (Some (asked_first 3 (Taken (ticket_named_so 0) 6)) ∷ [])
-taken_first zero d lt = (
-  answered_wide 9 (fetch_of_engine 3 ∷ []) wide_with_entry (asked_first 3 (Taken (ticket_named_so 0) 6)) (lit≤ tt)
-      (lit≤ tt) refl (lit≤ tt) refl,
-  refl,
-)
-taken_first (suc k) d lt = absurd (omega (arith, lt))
-
-full_first : InOrder (NextTurn wide_device 0 (seat_of 3 []) member_script) (Some (asked_first 3 Full) ∷ [])
-full_first zero d lt = (answered_full (asked_first 3 Full) refl, refl)
-full_first (suc k) d lt = absurd (omega (arith, lt))
-
-one_turn : (turn : Option Step) (k : ℕ) (d : Option Step) → k < 1
-    → found_full (calls_of (take k (turn ∷ []))) ≡ 0
-one_turn turn zero d lt = refl
-one_turn turn (suc k) d lt = absurd (omega (arith, lt))
 
 -- where there is no turn, none found the history full
 no_turns : (turns : List (Option Step)) → length turns ≡ 0 → 0 < found_full (calls_of turns) → ⊥
@@ -83,34 +67,17 @@ alone (Some call ∷ []) one first same = kept call.event call.reply (is_stored 
 alone (turn ∷ other ∷ turns) one first same = omega (arith, one)
 
 pub returns-clause-out_of_turns : goal.returns-clause-out_of_turns
-returns-clause-out_of_turns c = record {
-  turns = Some (asked_first 3 (Taken (ticket_named_so 0) 6)) ∷ [];
-  number = refl;
-  receipts = refl;
-  in_order = taken_first;
-  stops = one_turn (Some (asked_first 3 (Taken (ticket_named_so 0) 6)));
-  count = refl;
-  within = lit≤ tt;
-  out_of_turns = λ is. refl;
-  full = (λ none. absurd (grind (arith, none)), λ none. absurd (omega (arith, none)));
-  unscripted = λ same. grind (arith, same);
-  grows = record { prefix = refl; bound = lit≤ tt };
-}
+returns-clause-out_of_turns c =
+    let seat = seat_of 3 (fetch_of_engine 3 ∷ []) in
+    let answered = answered_wide 9 (fetch_of_engine 3 ∷ []) wide_with_entry
+    (asked_first 3 (Taken (ticket_named_so 0) 6)) (lit≤ tt) (lit≤ tt) refl (lit≤ tt) refl in
+    turns_out _ _ _ _ _ _ 1 _ (turns_more wide_device 9 member_script seat seat _ 0 []
+    (Dispatch (Taken (ticket_named_so 0) 6)) (turns_none _ _ _ _ [] refl) refl answered refl refl) refl
 
 pub returns-clause-full : goal.returns-clause-full
-returns-clause-full c = record {
-  turns = Some (asked_first 3 Full) ∷ [];
-  number = refl;
-  receipts = refl;
-  in_order = full_first;
-  stops = one_turn (Some (asked_first 3 Full));
-  count = refl;
-  within = lit≤ tt;
-  out_of_turns = λ none. absurd (grind (arith, none));
-  full = (λ is. lit≤ tt, λ is. refl);
-  unscripted = λ same. grind (arith, same);
-  grows = record { prefix = refl; bound = lit≤ tt };
-}
+returns-clause-full c =
+    turns_full wide_device 0 member_script 2 (seat_of 3 []) (seat_of 3 []) _ 0 [] (Dispatch Full)
+    (turns_none _ _ _ _ [] refl) refl (answered_full (asked_first 3 Full) refl) refl refl (lit≤ tt)
 
 pub returns-clause-scripted : goal.returns-clause-scripted
 returns-clause-scripted c is = is.unscripted refl

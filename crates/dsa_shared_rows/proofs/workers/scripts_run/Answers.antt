@@ -1,85 +1,30 @@
 use Rattle.dsa_shared_rows.proofs.workers.scripts_run.Goals as goal
-use Rattle.std.proofs.Common.{◌≡◌, ℕ, ◌<◌, zero, suc, [], ◌∷◌, arith, lit≤, refl}
-use Rattle.std.specs.Prelude.{take}
+use Rattle.std.proofs.Common.{ℕ, ◌<◌, List, [], ◌∷◌, ◌++◌, lit≤, refl}
 use Rattle.dsa_book.specs.declared.event.Step.{Step}
 use Rattle.dsa_book.specs.declared.answer.SubmitAnswer.TheVariants.{Full}
-use Rattle.dsa_workers.specs.Calls.{found_full}
+use Rattle.dsa_workers.proofs.Calls.{SoFar, so_far_none, so_far_more, ends_done, ends_out, ends_full}
 use Rattle.dsa_shared_rows.specs.Worked.{again_of_client, of_client, taken_of_client}
 
-one_call : (call : Step) (k : ℕ) (d : Step) → k < 1 → found_full (take k (call ∷ [])) ≡ 0
-one_call call zero d lt = refl
-one_call call (suc k) d lt = absurd (omega (arith, lt))
-
-two_taken : (k : ℕ) (d : Step) → k < 2 → found_full (take k (taken_of_client 0 ∷ taken_of_client 0 ∷ [])) ≡ 0
-two_taken zero d lt = refl
-two_taken (suc zero) d lt = refl
-two_taken (suc (suc k)) d lt = absurd (omega (arith, lt))
-
-one_again : (k : ℕ) (d : Step) → k < 2 → found_full (take k (again_of_client 0 ∷ taken_of_client 0 ∷ [])) ≡ 0
-one_again zero d lt = refl
-one_again (suc zero) d lt = refl
-one_again (suc (suc k)) d lt = absurd (omega (arith, lt))
+-- a worker that may call anything, and whose first step is accepted
+one_taken : (steps : ℕ) (old : List Step) → 0 < steps
+    → SoFar (λ before call. Unit {0}) steps old (old ++ taken_of_client 0 ∷ []) 1 1
+one_taken steps old some =
+    so_far_more _ steps old old _ 0 0 1 (taken_of_client 0) (so_far_none _ steps old) tt refl refl some refl
 
 pub returns-clause-done : goal.returns-clause-done
-returns-clause-done c = record {
-  calls = taken_of_client 0 ∷ taken_of_client 0 ∷ [];
-  receipts = refl;
-  in_order = λ k d lt. tt;
-  stops = two_taken;
-  turns = refl;
-  within = lit≤ tt;
-  short = lit≤ tt;
-  done = (λ is. refl, λ is. refl);
-  out_of_turns = λ none. absurd (grind (arith, none));
-  full = (λ none. absurd (grind (arith, none)), λ none. absurd (omega (arith, none)));
-  grows = record { prefix = refl; bound = lit≤ tt };
-  enough = λ is. lit≤ tt;
-}
+returns-clause-done c =
+    ends_done _ 2 3 _ _ 2 2 2 (so_far_more _ 2 _ _ _ 1 1 2 (taken_of_client 0)
+    (one_taken 2 (again_of_client 0 ∷ []) (lit≤ tt)) tt refl refl (lit≤ tt) refl) refl (lit≤ tt) (lit≤ tt)
 
 pub returns-clause-out_of_turns : goal.returns-clause-out_of_turns
-returns-clause-out_of_turns c = record {
-  calls = taken_of_client 0 ∷ [];
-  receipts = refl;
-  in_order = λ k d lt. tt;
-  stops = one_call (taken_of_client 0);
-  turns = refl;
-  within = lit≤ tt;
-  short = lit≤ tt;
-  done = (λ none. absurd (grind (arith, none)), λ none. absurd (omega (arith, none)));
-  out_of_turns = λ is. refl;
-  full = (λ none. absurd (grind (arith, none)), λ none. absurd (omega (arith, none)));
-  grows = record { prefix = refl; bound = lit≤ tt };
-  enough = λ none. absurd (grind (arith, none));
-}
+returns-clause-out_of_turns c = ends_out _ 2 1 _ _ 1 1 (one_taken 2 [] (lit≤ tt)) refl (lit≤ tt)
 
 pub returns-clause-full : goal.returns-clause-full
-returns-clause-full c = record {
-  calls = of_client 0 Full ∷ [];
-  receipts = refl;
-  in_order = λ k d lt. tt;
-  stops = one_call (of_client 0 Full);
-  turns = refl;
-  within = lit≤ tt;
-  short = lit≤ tt;
-  done = (λ none. absurd (grind (arith, none)), λ none. absurd (omega (arith, none)));
-  out_of_turns = λ none. absurd (grind (arith, none));
-  full = (λ is. lit≤ tt, λ is. refl);
-  grows = record { prefix = refl; bound = lit≤ tt };
-  enough = λ none. absurd (grind (arith, none));
-}
+returns-clause-full c =
+    ends_full _ 2 3 [] [] [] 0 0 (of_client 0 Full) (so_far_none _ 2 []) tt refl refl (lit≤ tt) (lit≤ tt)
 
 pub returns-clause-waited : goal.returns-clause-waited
-returns-clause-waited c = record {
-  calls = again_of_client 0 ∷ taken_of_client 0 ∷ [];
-  receipts = refl;
-  in_order = λ k d lt. tt;
-  stops = one_again;
-  turns = refl;
-  within = lit≤ tt;
-  short = lit≤ tt;
-  done = (λ is. refl, λ is. refl);
-  out_of_turns = λ none. absurd (grind (arith, none));
-  full = (λ none. absurd (grind (arith, none)), λ none. absurd (omega (arith, none)));
-  grows = record { prefix = refl; bound = lit≤ tt };
-  enough = λ is. lit≤ tt;
-}
+returns-clause-waited c =
+    ends_done _ 1 3 _ _ 2 2 1 (so_far_more _ 1 [] (again_of_client 0 ∷ []) _ 1 0 1 (taken_of_client 0)
+    (so_far_more _ 1 [] [] _ 0 0 0 (again_of_client 0) (so_far_none _ 1 []) tt refl refl (lit≤ tt) refl)
+    tt refl refl (lit≤ tt) refl) refl (lit≤ tt) (lit≤ tt)

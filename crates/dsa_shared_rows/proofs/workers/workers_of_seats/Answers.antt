@@ -1,7 +1,8 @@
 use Rattle.dsa_shared_rows.proofs.workers.workers_of_seats.Goals as goal
-use Rattle.std.proofs.Common.{ℕ, zero, suc, [], ◌∷◌, arith, lit≤, refl}
+use Rattle.std.proofs.Common.{ℕ, zero, suc, [], ◌∷◌, arith, refl}
 use Rattle.std.specs.declared.alloc.Global.{Global}
 use Rattle.dsa_workers.specs.declared.scripts.{WorkerEnd.TheVariants.{TurnsOut}}
+use Rattle.dsa_workers.proofs.Turns.{turns_none, turns_out}
 use Rattle.dsa_workers.specs.Workers.{ReportsEngines, RunsEngine, RunsEngines}
 use Rattle.dsa_shared_rows.specs.Worked.{lane_of, member_script, report_of, script_vector, seat_of, stint_of}
 use Rattle.dsa_shared_rows.specs.Worked.{wide_device}
@@ -9,19 +10,7 @@ use Rattle.dsa_shared_rows.specs.Worked.{wide_device}
 -- an engine without a turn
 no_turn : (number : ℕ)
     → RunsEngine wide_device 9 member_script 0 (seat_of number []) (seat_of number []) (stint_of 0 TurnsOut)
-no_turn number = record {
-  turns = [];
-  number = refl;
-  receipts = refl;
-  in_order = λ k d lt. absurd (omega (arith, lt));
-  stops = λ k d lt. absurd (omega (arith, lt));
-  count = refl;
-  within = lit≤ tt;
-  out_of_turns = λ is. refl;
-  full = (λ none. absurd (grind (arith, none)), λ none. absurd (omega (arith, none)));
-  unscripted = λ same. grind (arith, same);
-  grows = record { prefix = refl; bound = lit≤ tt };
-}
+no_turn number = turns_out _ _ _ _ _ _ 0 _ (turns_none _ _ _ _ [] refl) refl
 
 engines : (memory : Global) → ReportsEngines wide_device 9 (member_script ∷ member_script ∷ []) 0 1
     (seat_of 3 [] ∷ seat_of 4 [] ∷ []) (seat_of 3 [] ∷ seat_of 4 [] ∷ []) (report_of memory)

@@ -1,5 +1,0 @@
-use Rattle.dsa_workers.proofs.admin.issue_all.Given as goal
-use Rattle.dsa_workers.proofs.Calls.{AsksSoFar}
-
-abbrev pub invariant-loop-turn : goal.invariant-loop-turn
-invariant-loop-turn g l = AsksSoFar g.L.Sharing.caps g.L.Sharing.capacity l.script l.fn.seat l.seat l.turn l.at l.waits

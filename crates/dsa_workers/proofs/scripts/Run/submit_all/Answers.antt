@@ -1,0 +1,48 @@
+use Rattle.dsa_workers.proofs.scripts.Run.submit_all.Goals as goal
+use Rattle.std.proofs.Common.{ℕ, ◌≡◌, ◌∙◌, ◌+◌, sym, cond, refl, true, false, arith}
+use Rattle.dsa_workers.specs.Calls.{goes_on}
+use Rattle.dsa_workers.proofs.Calls.{so_far_none, submits_more, submits_full, ends_done, ends_out, moved_by}
+use Rattle.dsa_workers.proofs.{Calls.{client_runs}, scripts.Run.submit_all.Goals.{then-goes_on, else-goes_on}}
+use Rattle.std.proofs.lemmas.Grind.{common_steps}
+
+pub loop-turn-init : goal.loop-turn-init
+loop-turn-init g c = record { number = refl; so_far = so_far_none _ _ _ }
+
+pub returns-then-at-script : goal.returns-then-at-script
+returns-then-at-script g c =
+    let was = c.loop-turn.invariant in
+    client_runs _ _ _ _ _ _ _ was.number
+    (ends_done _ _ _ _ _ c.loop-turn.turn c.loop-turn.turn c.loop-turn.at was.so_far
+    refl (omega arith) (omega arith))
+
+pub returns-then-is_full : goal.returns-then-is_full
+returns-then-is_full g c =
+    submits_full _ _ _ _ _ _ _ c.loop-turn.turn c.loop-turn.at _ c.submit_once-reply.result c.loop-turn.invariant
+    c.submit_once-reply.ensures (sym c.is_full.ensures ∙ c.if-is_full.true) (omega arith) (omega arith)
+
+pub loop-turn-preserved : goal.loop-turn-preserved
+loop-turn-preserved g c =
+    let moved : c.if-goes_on.at ≡ c.loop-turn.at + cond {A = ℕ} (goes_on c.submit_once-reply.result) 1 0 =
+    elim c.if-goes_on.branch [
+      | then-goes_on w ↦ moved_by (goes_on c.submit_once-reply.result) true _ _ (sym c.goes_on.ensures
+          ∙ w.if-goes_on.true) w.at-is
+      | else-goes_on w ↦ moved_by (goes_on c.submit_once-reply.result) false _ _ (sym c.goes_on.ensures
+          ∙ w.if-goes_on.false) (omega (arith, w.at-is))
+    ] in
+    submits_more _ _ _ _ _ _ c.loop-turn.turn c.loop-turn.at _ _ c.submit_once-reply.result c.loop-turn.invariant
+    c.submit_once-reply.ensures (sym c.is_full.ensures ∙ c.if-is_full.false) (omega arith) moved
+
+pub returns-then-at-script-2 : goal.returns-then-at-script-2
+returns-then-at-script-2 g c =
+    let was = c.loop-turn.invariant in
+    client_runs _ _ _ _ _ _ _ was.number (ends_done _ _ _ _ _ c.loop-turn.turn c.args.self.now.turns c.loop-turn.at
+    was.so_far (omega arith) (omega arith) (omega arith))
+
+pub returns-else-at-script-2 : goal.returns-else-at-script-2
+returns-else-at-script-2 g c =
+    let was = c.loop-turn.invariant in
+    client_runs _ _ _ _ _ _ _ was.number (ends_out _ _ _ _ _ c.loop-turn.turn c.loop-turn.at was.so_far (omega arith)
+    (omega arith))
+
+pub bounds-script-at : goal.bounds-script-at
+bounds-script-at = grind (arith, common_steps)
