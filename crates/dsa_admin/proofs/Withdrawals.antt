@@ -66,16 +66,11 @@ module _ {command : Command} {content now : Content} {first book : Records} {i k
   -- and that entry is looked at
   pub looks-at : {e : Entry} → got ≡ Some e → LooksAt command content i k now cell e
   looks-at {e} some =
-      let told : ◌≡◌ {A = Option Entry} (Some turn.entry) (Some e) = sym turn.get ∙ sym read ∙ some in
-      let same : turn.entry ≡ e = cc in
-      subst (LooksAt command content i k now cell) same (record {
-        stands = turn.stands;
-        now_stands = turn.now_stands;
-        found = turn.get;
-        next = turn.next;
-        out = turn.out;
-        stay = turn.stay;
-      })
+      let t = turn in
+      let told : ◌≡◌ {A = Option Entry} (Some t.entry) (Some e) = sym t.get ∙ sym read ∙ some in
+      let same : t.entry ≡ e = cc in
+      subst (LooksAt command content i k now cell) same
+      (record { stands = t.stands; now_stands = t.now_stands; found = t.get; next = t.next; out = t.out; stay = t.stay })
 
 -- and a row of it has room
 pub withdrawn-room : {command : Command} {content now : Content} {first book : Records} {i k : ℕ} {got : Option Entry}

@@ -4,10 +4,8 @@ ghost use Rattle.std.specs.Prelude.{◌≡◌, ◌&&◌, cond, false, not, None}
 ghost use Rattle.std.specs.List.{list_all};
 ghost use Rattle.dsa_base.specs.Rows.{when};
 ghost use Rattle.dsa_regs.specs.Command.{queues_in};
-ghost use Rattle.dsa_book.specs.State.{is_on, phase_at};
-ghost use Rattle.dsa_book.specs.Commands.{is_bad_queues, may_come, suits};
-ghost use Rattle.dsa_admin.specs.declared.reasons.IssueReason.TheVariants.{NoQueue};
-ghost use Rattle.dsa_admin.specs.Admin.{names_bad_queue};
+ghost use Rattle.dsa_book.specs.{State.{is_on, phase_at}, Commands.{is_bad_queues, may_come, suits}};
+ghost use Rattle.dsa_admin.specs.{declared.reasons.IssueReason.TheVariants.{NoQueue}, Admin.{names_bad_queue}};
 ghost use Rattle.dsa_admin.specs.Command.{found_by_check, missing_queue, phase_reason, unsuited, unsuited_queue};
 
 use crate::IssueReason;

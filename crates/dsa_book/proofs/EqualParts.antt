@@ -45,12 +45,19 @@ same-bool true true h = refl
 same-bool false false h = refl
 same-bool _ _ h = never h
 
+-- four numbers that compare as equal one after the other
+four : (a b c d a' b' c' d' : ℕ) → (a == a' && (b == b' && (c == c' && d == d'))) ≡ true
+    → (a ≡ a') × (b ≡ b') × (c ≡ c') × (d ≡ d')
+four a b c d a' b' c' d' h =
+    let p = field same-number a a' _ h in
+    let q = field same-number b b' _ p.1 in
+    let r = field same-number c c' _ q.1 in
+    (p.0, q.0, r.0, same-number d d' r.1)
+
 pub same-descriptor : (a b : Descriptor) → descriptor_eq.eq-value.it a b ≡ true → a ≡ b
 same-descriptor a b h =
-    let p = field same-number a.pasid b.pasid _ h in
-    let q = field same-number a.flags b.flags _ p.1 in
-    let r = field same-number a.op b.op _ q.1 in
-    λ i. record { pasid = p.0 i; flags = q.0 i; op = r.0 i; size = same-number a.size b.size r.1 i }
+    let p = four a.pasid a.flags a.op a.size b.pasid b.flags b.op b.size h in
+    λ i. record { pasid = p.0 i; flags = p.1 i; op = p.2 i; size = p.3 i }
 
 pub same-outcome : (a b : Outcome) → outcome_eq.eq-value.it a b ≡ true → a ≡ b
 same-outcome outcome.Success outcome.Success h = refl
@@ -70,18 +77,15 @@ same-queue_config a b h =
       threshold = q.0 i;
       dedicated = r.0 i;
       priority = s.0 i;
-      pasid =
-          t.0 i;
+      pasid = t.0 i;
       max_batch_shift = u.0 i;
       max_xfer_shift = same-number a.max_xfer_shift b.max_xfer_shift u.1 i;
     }
 
 pub same-group_config : (a b : GroupConfig) → group_config_eq.eq-value.it a b ≡ true → a ≡ b
 same-group_config a b h =
-    let p = field same-number a.queues b.queues _ h in
-    let q = field same-number a.engines b.engines _ p.1 in
-    let r = field same-number a.reserved b.reserved _ q.1 in
-    λ i. record { queues = p.0 i; engines = q.0 i; reserved = r.0 i; allowed = same-number a.allowed b.allowed r.1 i }
+    let p = four a.queues a.engines a.reserved a.allowed b.queues b.engines b.reserved b.allowed h in
+    λ i. record { queues = p.0 i; engines = p.1 i; reserved = p.2 i; allowed = p.3 i }
 
 pub same-queue_mask : (a b : QueueMask) → queue_mask_eq.eq-value.it a b ≡ true → a ≡ b
 same-queue_mask a b h =

@@ -36,5 +36,5 @@ IsOpening (Some machine) caps capacity number after = (number ≡ ALREADY_OPEN) 
 -- the bytes of a device with its store and its book, where nothing keeps it from being opened: a
 -- store has one list more than the device, for its free cells
 abbrev pub bytes_taken : Caps → ℕ → Option MakeFault → ℕ
-bytes_taken caps capacity None = 52 * cell_count caps + 20 * (list_count caps + 1) + 72 * capacity + 3552
+bytes_taken caps capacity None = 52 * cell_count caps + 20 * (list_count caps + 1) + 72 * capacity + 3808
 bytes_taken caps capacity (Some fault) = 0

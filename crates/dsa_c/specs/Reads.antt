@@ -51,12 +51,8 @@ queue_for_c config = record {
 }
 
 abbrev pub group_for_c : GroupConfig → DeviceGroup
-group_for_c config = record {
-  queues = config.queues;
-  engines = config.engines;
-  reserved = config.reserved;
-  allowed = config.allowed;
-}
+group_for_c g =
+    record { queues = g.queues; engines = g.engines; reserved = g.reserved; allowed = g.allowed }
 
 abbrev pub entry_for_c : HeldEntry → DeviceEntry
 entry_for_c pair = record {

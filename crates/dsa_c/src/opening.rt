@@ -3,8 +3,7 @@
 ghost use Rattle.std.specs.Prelude.{◌≡◌, None, is_some};
 ghost use Rattle.dsa_base.specs.Rows.{first_row};
 ghost use Rattle.dsa_device.specs.Made.{opening_table};
-ghost use Rattle.dsa_c.specs.Opening.{IsOpening, caps_from_c, bytes_taken};
-ghost use Rattle.dsa_c.specs.Calls.{opening_number};
+ghost use Rattle.dsa_c.specs.{Opening.{IsOpening, caps_from_c, bytes_taken}, Calls.{opening_number}};
 
 use crate::handle::Handle;
 use crate::numbers::{ALREADY_OPEN, BAD_CAPACITY, BAD_CAPS, BAD_STORE, OPENED, OUT_OF_MEMORY};
@@ -62,11 +61,11 @@ const LIST_BYTES: u64 = 20;
 
 const STEP_BYTES: u64 = 72;
 
-const DEVICE_BYTES: u64 = 3552;
+const DEVICE_BYTES: u64 = 3808;
 
 const _: () = prove!(size_of::<Step>() + size_of::<FateRow>() == 72);
 
-const _: () = prove!(size_of::<LinkedDevice>() == 3552);
+const _: () = prove!(size_of::<LinkedDevice>() == 3808);
 
 /// How many bytes an opened device of these capabilities and this capacity takes, 0 where it would
 /// be refused.

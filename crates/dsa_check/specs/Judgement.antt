@@ -86,3 +86,7 @@ IsJudged bytes (fault ∷ faults) = IsFaultOf bytes fault
 -- the faults that are told
 abbrev pub faults_told : List Finding → List ScenarioFault
 faults_told findings = map (λ finding. finding.fault) findings
+
+-- these faults are told besides
+abbrev pub Notes : List Finding → List Finding → List ScenarioFault → Type 0
+Notes old new faults = faults_told new ≡ faults_told old ++ faults

@@ -1,17 +1,18 @@
 -- A document and keys that the worked rows speak of.
-use Rattle.std.specs.Prelude.{ℕ, true, false, List, [], ◌∷◌, map, filter, codes, Option, None, option_map}
+use Rattle.std.specs.Prelude.{◌≡◌, ℕ, true, false, List, [], ◌∷◌, map, filter, codes, Option, None, option_map}
 use Rattle.std.specs.{Prelude.{⊤}, Str.{chars}}
 use Rattle.strsim.specs.Edits.{cost_at, osa_row, osa_from}
 use Rattle.serde_json.specs.Data.{Data, null}
 use Rattle.dsa_scenario.specs.Worked.{Fields, whole, object_of, array_of_one, fields_without, changed}
 use Rattle.dsa_scenario.specs.Worked.{some_caps, poll_step, smallest_caps_text, document_text}
 use Rattle.std.specs.declared.{alloc.Global.{Global}, vec.Vec.{Vec}}
-use Rattle.dsa_scenario.specs.declared.faults.ScenarioFault.TheVariants.{BadCapacity}
+use Rattle.dsa_scenario.specs.declared.{faults.ScenarioFault.{ScenarioFault, TheVariants.{BadCapacity}}, fields.Form.{Form}}
 use Rattle.dsa_check.specs.declared.syntax.Wanted.{Wanted}
 use Rattle.dsa_check.specs.declared.syntax.Wanted.TheVariants as wanted
 use Rattle.dsa_check.specs.declared.{fields.Key.{Key}, finding.{Finding.{Finding}, Reason.{Reason}}}
 use Rattle.dsa_scenario.specs.{Fields.{Row}, Actions.{rows_of_kind, kind_of}}
-use Rattle.dsa_check.specs.Reasons.{is_unfit, near_kind}
+use Rattle.dsa_check.specs.Findings.{TellsWhy}
+use Rattle.dsa_check.specs.Reasons.{IsReasonOf, is_unfit, near_kind}
 
 abbrev pub right_document : Fields
 right_document =
@@ -36,10 +37,19 @@ key_of_caps = record { name = record { ref_ptr = (0, 0); now = codes "slots" }; 
 abbrev pub key_of_a_step : Key
 key_of_a_step = record { name = record { ref_ptr = (0, 0); now = codes "desc" }; in_caps = false }
 
+-- whatever its key, this is no reason of what stands there
+abbrev pub IsNoReason : Form → Option Data → (Key → Reason) → Type 0
+IsNoReason wanted value reason = (key : Key) → IsReasonOf key wanted value (reason key) → ⊥
+
 -- a capacity that is too large, told at this line and this column
 abbrev pub found_at : Option ℕ → Option ℕ → Vec Reason Global → Finding
 found_at line column reasons =
     record { fault = BadCapacity; place = record { line = line; column = column; kind = None }; reasons = reasons }
+
+-- this fault of the value is not told without a reason
+abbrev pub IsUntold : Data → ScenarioFault → Type 0
+IsUntold document fault =
+    (finding : Finding) → finding.reasons.items ≡ [] → TellsWhy [] document finding fault → ⊥
 
 -- a document whose device has so many slots
 abbrev pub document_of_slots : ℕ → Data

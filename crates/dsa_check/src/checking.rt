@@ -7,7 +7,7 @@ ghost use Rattle.dsa_check.specs.Check.{IsCheckReportOf, first_of};
 use crate::finding::Finding;
 use crate::judge::judge_document;
 use crate::report::report_lines;
-use dsa_scenario::{Render, Rendering, ScenarioFault};
+use dsa_scenario::{Render, Rendered, Rendering, ScenarioFault};
 use std::alloc::Global;
 
 /// All faults of a document, as lines, and the first of them.
@@ -26,7 +26,7 @@ fn first_fault(findings: &[Finding]) -> Option<ScenarioFault>
 impl Render for Check {
     ghost is_rendering = { λ check bytes fault text. IsCheckReportOf bytes fault text };
 
-    fn render(&self, alloc: Global, bytes: &[u8]) -> Result<Rendering, ScenarioFault> {
+    fn render(&self, alloc: Global, bytes: &[u8]) -> Rendered {
         let findings = judge_document(alloc, bytes)?;
         let text = report_lines(alloc, findings.as_slice())?;
         let fault = first_fault(findings.as_slice());

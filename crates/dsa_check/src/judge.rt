@@ -7,7 +7,7 @@ ghost use Rattle.dsa_scenario.specs.Actions.{action_of};
 ghost use Rattle.dsa_check.specs.Findings.{AppendsAll, IsFounded, IsNowhere, IsWrongAt, AreOfUtf8, IsInText, IsFindingOf, IsFindingIn, AreFounded};
 ghost use Rattle.dsa_check.specs.Places.{IsSpot, IsShallow, AreTextOf, BeginsOnLine, IsFoundBetween, IsToldWhereFound, extent_at};
 ghost use Rattle.dsa_check.specs.Flaws.{IsOpenFrom};
-ghost use Rattle.dsa_check.specs.Judgement.{faults_told, AreFaultsOf, IsJudged, head_faults, step_items_of, caps_at, capacity_at, fault_of_step, bad_steps, caps_faults, capacity_faults, faults_of_value};
+ghost use Rattle.dsa_check.specs.Judgement.{faults_told, Notes, AreFaultsOf, IsJudged, head_faults, step_items_of, caps_at, capacity_at, fault_of_step, bad_steps, caps_faults, capacity_faults, faults_of_value};
 
 use crate::finding::{Finding, Place, Reason};
 use crate::places::{START, Spot};
@@ -15,6 +15,7 @@ use crate::reasons::{capacity_reasons, caps_reasons, document_reasons, step_reas
 use crate::scan::{Extent, Flaw, is_json, scan_text};
 use crate::syntax::{end_of, syntax_of};
 use crate::tables::MAX_CAPACITY;
+use dsa_event_text::Added;
 use dsa_regs::check_caps;
 use dsa_scenario::{
     ScenarioFault, kind_of, parse_action, parse_caps, parse_head, parse_json, u64_field,
@@ -118,14 +119,9 @@ fn no_json(alloc: Global, bytes: &[u8]) -> Result<Vec<Finding>, AllocError>
 
 // The caps, the capacity and the steps of a document, where one of them is missing or of another
 // form.
-fn judge_head(
-    alloc: Global,
-    document: &Value,
-    findings: &mut Vec<Finding>,
-) -> Result<(), AllocError>
+fn judge_head(alloc: Global, document: &Value, findings: &mut Vec<Finding>) -> Added
     ensures faults { OnOk result
-        (faults_told findings.new.items
-        ≡ faults_told findings.old.items ++ head_faults (view document.now)) }
+        (Notes findings.old.items findings.new.items (head_faults (view document.now))) }
     ensures told { (bytes : List ℕ) → OnOk result
         (AppendsAll (IsFounded bytes (view document.now)) findings.old.items findings.new.items) }
 {
@@ -281,8 +277,8 @@ fn judge_item(
     requires shallow { IsShallow (view step.now) }
     ensures spot { IsSpot bytes.now steps.new.spot }
     ensures faults { OnOk result
-        (faults_told findings.new.items
-        ≡ faults_told findings.old.items ++ fault_of_step i (action_of (view step.now))) }
+        (Notes findings.old.items findings.new.items
+        (fault_of_step i (action_of (view step.now)))) }
     ensures told { OnOk result
         (AppendsAll (IsFindingOf bytes.now i (view step.now)) findings.old.items
         findings.new.items) }
@@ -302,8 +298,7 @@ fn judge_items(
 ) -> Result<(), AllocError>
     requires { All (λ item. IsShallow (view item)) items.now }
     ensures faults { OnOk result
-        (faults_told findings.new.items
-        ≡ faults_told findings.old.items ++ bad_steps 0 (map view items.now)) }
+        (Notes findings.old.items findings.new.items (bad_steps 0 (map view items.now))) }
     ensures told { OnOk result
         (AppendsAll (IsFindingIn bytes.now (map view items.now)) findings.old.items
         findings.new.items) }
@@ -327,8 +322,8 @@ fn judge_steps(
 ) -> Result<(), AllocError>
     requires { IsShallow (view document.now) }
     ensures faults { OnOk result
-        (faults_told findings.new.items
-        ≡ faults_told findings.old.items ++ bad_steps 0 (step_items_of (view document.now))) }
+        (Notes findings.old.items findings.new.items
+        (bad_steps 0 (step_items_of (view document.now)))) }
     ensures told { OnOk result
         (AppendsAll (IsFounded bytes.now (view document.now)) findings.old.items
         findings.new.items) }
@@ -343,14 +338,9 @@ fn judge_steps(
 }
 
 // The caps, where they are read, and no device has them.
-fn judge_caps(
-    alloc: Global,
-    document: &Value,
-    findings: &mut Vec<Finding>,
-) -> Result<(), AllocError>
+fn judge_caps(alloc: Global, document: &Value, findings: &mut Vec<Finding>) -> Added
     ensures faults { OnOk result
-        (faults_told findings.new.items
-        ≡ faults_told findings.old.items ++ caps_faults (caps_at (view document.now))) }
+        (Notes findings.old.items findings.new.items (caps_faults (caps_at (view document.now)))) }
     ensures told { (bytes : List ℕ) → OnOk result
         (AppendsAll (IsFounded bytes (view document.now)) findings.old.items findings.new.items) }
 {
@@ -367,14 +357,10 @@ fn judge_caps(
 }
 
 // The capacity, where it is read, and no history has it.
-fn judge_capacity(
-    alloc: Global,
-    document: &Value,
-    findings: &mut Vec<Finding>,
-) -> Result<(), AllocError>
+fn judge_capacity(alloc: Global, document: &Value, findings: &mut Vec<Finding>) -> Added
     ensures faults { OnOk result
-        (faults_told findings.new.items
-        ≡ faults_told findings.old.items ++ capacity_faults (capacity_at (view document.now))) }
+        (Notes findings.old.items findings.new.items
+        (capacity_faults (capacity_at (view document.now)))) }
     ensures told { (bytes : List ℕ) → OnOk result
         (AppendsAll (IsFounded bytes (view document.now)) findings.old.items findings.new.items) }
 {

@@ -22,7 +22,7 @@ ghost use Rattle.dsa_check.specs.Places.{line_after, column_after, IsSpot, Begin
 ghost use Rattle.dsa_check.specs.Reasons.{is_asked, is_between, is_of_form, is_plain, has_caps, is_step, kind_row, found_number, found_of, digits_reason, text_reason, IsReasonOf, IsStrayKey, HasStrayKey, IsKindReason, AreReasonsOf, AreStepReasons};
 ghost use Rattle.dsa_scenario.specs.{Fields.{bits}, Actions.{kinds, rows_of_kind, names_text}};
 ghost use Rattle.dsa_check.specs.Tables.{document_rows, caps_rows, device_rows, history_rows};
-ghost use Rattle.dsa_check.specs.Worked.{right_document, unfit_keys, unfit_keys_of, key_of_caps, key_of_a_step, found_at, document_of_slots, document_of_null, document_without_slots, right_text};
+ghost use Rattle.dsa_check.specs.Worked.{IsNoReason, IsUntold, right_document, unfit_keys, unfit_keys_of, key_of_caps, key_of_a_step, found_at, document_of_slots, document_of_null, document_without_slots, right_text};
 
 /// Each part of a document has its fault; the others are looked at also where one is missing.
 pub fn faults_of_each_part()
@@ -137,42 +137,23 @@ pub fn reasons_that_are_so()
 
 /// Reasons that are not.
 pub fn reasons_that_are_not_so()
-    ensures there { (key : Key) → IsReasonOf key (bits 8) (Some (whole 256)) (Missing key) → ⊥ }
-    ensures nothing { (key : Key)
-        → IsReasonOf key (bits 8) None (Unfit key found.Null (bits 8))
-        → ⊥ }
-    ensures number { (key : Key)
-        → IsReasonOf key (bits 8) (Some (whole 256)) (Unfit key (found.Whole 255) (bits 8))
-        → ⊥ }
-    ensures form { (key : Key)
-        → IsReasonOf key (bits 8) (Some (whole 256)) (Unfit key (found.Whole 256) (bits 16))
-        → ⊥ }
-    ensures even { (key : Key)
-        → IsReasonOf key form.Digits (Some (string (codes "00"))) (OddDigits key 2)
-        → ⊥ }
-    ensures count { (key : Key)
-        → IsReasonOf key form.Digits (Some (string (codes "000"))) (OddDigits key 1)
-        → ⊥ }
-    ensures few { (key : Key)
-        → IsReasonOf key form.Digits (Some (string (codes "000"))) (ManyDigits key 3)
-        → ⊥ }
-    ensures before { (key : Key)
-        → IsReasonOf key form.Digits (Some (string (codes "0g"))) (NoDigit key 1)
-        → ⊥ }
-    ensures no_digits { (key : Key)
-        → IsReasonOf key form.Text (Some (string (codes "0g"))) (NoDigit key 2)
-        → ⊥ }
-    ensures odd_and_many { (key : Key)
-        → IsReasonOf key form.Digits (Some (string (replicate 129 48))) (OddDigits key 129)
-        → ⊥ }
-    ensures odd_and_a_letter { (key : Key)
-        → IsReasonOf key form.Digits (Some (string (codes "0g0"))) (OddDigits key 3)
-        → ⊥ }
-    ensures no_value { (key : Key)
-        → IsReasonOf key form.Digits
-        (Some (string (codes "000")))
-        (Unfit key found.Text form.Digits)
-        → ⊥ }
+    ensures there { IsNoReason (bits 8) (Some (whole 256)) (λ key. Missing key) }
+    ensures nothing { IsNoReason (bits 8) None (λ key. Unfit key found.Null (bits 8)) }
+    ensures number { IsNoReason (bits 8) (Some (whole 256))
+        (λ key. Unfit key (found.Whole 255) (bits 8)) }
+    ensures form { IsNoReason (bits 8) (Some (whole 256))
+        (λ key. Unfit key (found.Whole 256) (bits 16)) }
+    ensures even { IsNoReason form.Digits (Some (string (codes "00"))) (λ key. OddDigits key 2) }
+    ensures count { IsNoReason form.Digits (Some (string (codes "000"))) (λ key. OddDigits key 1) }
+    ensures few { IsNoReason form.Digits (Some (string (codes "000"))) (λ key. ManyDigits key 3) }
+    ensures before { IsNoReason form.Digits (Some (string (codes "0g"))) (λ key. NoDigit key 1) }
+    ensures no_digits { IsNoReason form.Text (Some (string (codes "0g"))) (λ key. NoDigit key 2) }
+    ensures odd_and_many { IsNoReason form.Digits (Some (string (replicate 129 48)))
+        (λ key. OddDigits key 129) }
+    ensures odd_and_a_letter { IsNoReason form.Digits (Some (string (codes "0g0")))
+        (λ key. OddDigits key 3) }
+    ensures no_value { IsNoReason form.Digits (Some (string (codes "000")))
+        (λ key. Unfit key found.Text form.Digits) }
     ensures a_text { (key : Key)
         → IsKindReason (object_of (step_of_kind (codes "polls") []))
         (Unfit key found.Text form.Text)
@@ -445,20 +426,14 @@ pub fn reasons_of_parts()
         → IsNowhere finding.place
         → finding.reasons.items ≡ NoObject found.Null ∷ []
         → TellsWhy [] null finding BadDocument }
-    ensures untold_document { (finding : Finding)
-        → finding.reasons.items ≡ []
-        → TellsWhy [] null finding BadDocument
-        → ⊥ }
+    ensures untold_document { IsUntold null BadDocument }
     ensures caps { (finding : Finding) (key : Key)
         → key.name.now ≡ codes "slots"
         → key.in_caps ≡ false
         → IsNowhere finding.place
         → finding.reasons.items ≡ Unfit key (found.Whole 17) (form.Whole 1 16) ∷ []
         → TellsWhy [] (document_of_slots 17) finding BadCaps }
-    ensures untold_caps { (finding : Finding)
-        → finding.reasons.items ≡ []
-        → TellsWhy [] (document_of_slots 17) finding BadCaps
-        → ⊥ }
+    ensures untold_caps { IsUntold (document_of_slots 17) BadCaps }
     ensures capacity { (finding : Finding) (key : Key)
         → key.name.now ≡ codes "capacity"
         → key.in_caps ≡ false
@@ -466,20 +441,14 @@ pub fn reasons_of_parts()
         → finding.reasons.items ≡ Unfit key (found.Whole 1048577) (form.Whole 0 1048576) ∷ []
         → TellsWhy [] (changed (codes "capacity") (whole 1048577) right_document) finding
         BadCapacity }
-    ensures untold_capacity { (finding : Finding)
-        → finding.reasons.items ≡ []
-        → TellsWhy [] (changed (codes "capacity") (whole 1048577) right_document) finding
-        BadCapacity
-        → ⊥ }
+    ensures untold_capacity { IsUntold (changed (codes "capacity") (whole 1048577) right_document)
+        BadCapacity }
     ensures step { (finding : Finding)
         → finding.place.kind ≡ None
         → IsNowhere finding.place
         → finding.reasons.items ≡ NoObject found.Null ∷ []
         → TellsWhy [] document_of_null finding (BadStep 0) }
-    ensures untold_step { (finding : Finding)
-        → finding.reasons.items ≡ []
-        → TellsWhy [] document_of_null finding (BadStep 0)
-        → ⊥ }
+    ensures untold_step { IsUntold document_of_null (BadStep 0) }
     ensures no_step { (finding : Finding)
         → TellsWhy [] document_of_null finding (BadStep 1)
         → ⊥ }

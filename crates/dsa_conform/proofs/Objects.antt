@@ -5,11 +5,14 @@ use Rattle.std.proofs.Common.{take, get_or, option_map}
 use Rattle.std.proofs.lemmas.List.{take_more, length-map, map-append}
 use Rattle.std.proofs.lemmas.Option.{slice_get-map, slice_get_read, get_or_from_slice_get, same_Some}
 use Rattle.std.proofs.Math.ListN.{get_or-map}
-use Rattle.std.specs.Prelude.{slice_get, is_none, false, option_and_then}
+use Rattle.std.specs.Prelude.{IsUtf8, slice_get, is_none, false, option_and_then}
 use Rattle.dsa_scenario.specs.Actions.{action_of}
-use Rattle.serde_json.specs.{View.{view}, Data.{Data}, declared.value.Value.{Value}}
+use Rattle.serde_json.specs.{View.{view}, Data.{Data, Items}, Read.{read}, declared.value.Value.{Value}}
+use Rattle.dsa_regs.specs.declared.Caps.{Caps}
+use Rattle.dsa_scenario.specs.Document.{head_of, list_of_items}
+use Rattle.dsa_scenario.proofs.Heads.{head_by}
 use Rattle.dsa_scenario.specs.declared.actions.Action.{Action}
-use Rattle.dsa_conform.specs.{Seen.{Seen, seen_of, observation_of}, Run.{AreRead}}
+use Rattle.dsa_conform.specs.{Seen.{Seen, seen_of, observation_of}, Run.{AreRead, IsUnread, IsUnreadAt}}
 
 -- the item is that of the list, as JSON
 item_at : (vs : List Value) (i : ℕ) (v : Value) → i < length vs → v ≡ get_or vs i v
@@ -63,19 +66,26 @@ read_at vs observed i v h inside is = found (slice_get observed i) refl (sym lef
           ∙ ap (λ o. take i observed ++ o ∷ []) (get_or_from_slice_get observed i here here at);
     }
 
+-- a document whose object i is not read, by what its text reads as
+pub unread : (text : List ℕ) (d : Data) (caps : Caps) (capacity : ℕ) (items : Items) (i : ℕ) → IsUtf8 text
+    → read text ≡ Some d → head_of d ≡ Some (caps, capacity, items) → IsUnreadAt (list_of_items items) i
+    → IsUnread text i
+unread text d caps capacity items i utf8 value head bad =
+    record { caps = _; capacity = _; steps = _; head = head_by text d caps capacity items utf8 value head; bad = bad }
+
 -- a list that is read has nothing in it that is not
-pub not_first : {X : Type 0} (rest : List (Option X)) (read : List X) → None ∷ rest ≡ map Some read → ⊥
+pub not_first : {X : Type 0} (rest : List (Option X)) (done : List X) → None ∷ rest ≡ map Some done → ⊥
 not_first rest [] e = absurd cc
 not_first rest (x ∷ xs) e = absurd cc
 
-pub not_second : {X : Type 0} (first : Option X) (rest : List (Option X)) (read : List X)
-    → first ∷ None ∷ rest ≡ map Some read → ⊥
+pub not_second : {X : Type 0} (first : Option X) (rest : List (Option X)) (done : List X)
+    → first ∷ None ∷ rest ≡ map Some done → ⊥
 not_second first rest [] e = absurd cc
 not_second first rest (x ∷ []) e = absurd cc
 not_second first rest (x ∷ y ∷ ys) e = absurd cc
 
 -- and one of one item has that item
-pub one_read : {X : Type 0} (x : X) (read : List X) → Some x ∷ [] ≡ map Some read → read ≡ x ∷ []
+pub one_read : {X : Type 0} (x : X) (done : List X) → Some x ∷ [] ≡ map Some done → done ≡ x ∷ []
 one_read x [] e = absurd cc
 one_read x (y ∷ []) e = cc
 one_read x (y ∷ z ∷ zs) e = absurd cc

@@ -27,7 +27,7 @@ use Rattle.dsa_scenario.specs.declared.actions.Action.{Action, TheVariants.{Ask,
 use Rattle.dsa_scenario.specs.declared.run.Record.{Record, TheVariants.{Stepped, Refused}}
 use Rattle.dsa_scenario.specs.{Lines.{reply_text}, Steps.{standing}}
 use Rattle.dsa_scenario.specs.Run.{ticket_given_by, given_by_reply, event_of, answered_by, AreOf, Leads, steps_of_records}
-use Rattle.dsa_scenario.proofs.{Records.{Goes, goes_on}, Walks.{stands}}
+use Rattle.dsa_scenario.proofs.{Records.{Goes, goes_nowhere, goes_on}, Walks.{stands}}
 use Rattle.dsa_conform.specs.Allowed.{AreSeenAlike}
 use Rattle.dsa_conform.specs.Run.{IsShownRun}
 use Rattle.dsa_conform.specs.Seen.{Seen, nameless_reply, zf_of_step, AreShown}
@@ -147,23 +147,6 @@ run_from first before d (o ∷ os) (Refused fault ∷ rs) goes of shown run =
       (d, record { answers = of.0; leads = refl; shown = shown.0 }, on.1),
       subst (λ b. Goes first on.0 b) (append_assoc before (Refused fault ∷ []) rs) on.2,
     )
-
--- a new device of these caps has gone nowhere
-pub goes_nowhere : (caps : Caps) (capacity : ℕ) → IsReplay (running_at_first caps capacity)
-    → Goes (running_at_first caps capacity) (running_at_first caps capacity) []
-goes_nowhere caps capacity i = record {
-  run = record {
-    steps = [];
-    added = refl;
-    events_are = refl;
-    allowed = refl;
-    same_caps = refl;
-    same_capacity = refl;
-    history = refl;
-    replayed = i.replayed;
-  };
-  replay = i;
-}
 
 pub run_of : (caps : Caps) (capacity : ℕ) (observed : List (Action × Seen)) (records : List Record)
     → IsReplay (running_at_first caps capacity) → IsShownRun caps capacity observed records

@@ -70,6 +70,9 @@ pub record IsDifference (caps : Caps) (capacity : ℕ) (before : List (Action ×
 abbrev pub AreRead : List Data → List (Action × Seen) → Type 0
 AreRead steps observed = map observation_of steps ≡ map Some observed
 
+abbrev pub AreAllRead : List Data → Type 0
+AreAllRead steps = (observed : List (Action × Seen)) × AreRead steps observed
+
 -- object i is none, and all before it are (profile)
 pub record IsUnreadAt (steps : List Data) (i : ℕ) : Type 0 where
   pub done : List (Action × Seen)

@@ -201,10 +201,15 @@ smallest_device_at_first = running_at_first smallest_caps 9
 abbrev pub GoesAtFirst : List (Action × Seen) → List Record → Running → Type 0
 GoesAtFirst observed records after = RunFrom [] smallest_device_at_first observed records after
 
--- a poll of which this was seen, an answer to it, and the line of the one that it may have
+-- a poll of which this was seen
 abbrev pub polled_with : Seen → List (Action × Seen)
 polled_with seen = (Ask event.Poll, seen) ∷ []
 
+-- a word that is no command, and then such a poll
+abbrev pub refused_then_polled : Seen → List (Action × Seen)
+refused_then_polled seen = (Refuse BadCommand, nothing_seen) ∷ polled_with seen
+
+-- an answer to it, and the line of the one that it may have
 abbrev pub poll_record : PollAnswer → Record
 poll_record answer = stepped event.Poll (reply.Poll answer)
 

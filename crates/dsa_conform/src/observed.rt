@@ -1,11 +1,10 @@
 //! What a document says was seen of its steps.
 
-ghost use Rattle.std.specs.Prelude.{◌≡◌, None, codes, map, option_map, MatchOption, List, Some};
+ghost use Rattle.std.specs.Prelude.{◌≡◌, None, codes, map, option_map, MatchOption, Some};
 ghost use Rattle.serde_json.specs.View.{view};
 ghost use Rattle.serde_json.specs.Find.{get, as_bool, as_str};
-ghost use Rattle.dsa_scenario.specs.declared.actions.Action.{Action};
-ghost use Rattle.dsa_conform.specs.Seen.{Seen, perhaps, seen_of, seen_as, is_seen, observation_of};
-ghost use Rattle.dsa_conform.specs.Run.{AreRead, IsUnreadAt};
+ghost use Rattle.dsa_conform.specs.Seen.{perhaps, seen_of, seen_as, is_seen, observation_of};
+ghost use Rattle.dsa_conform.specs.Run.{AreAllRead, IsUnreadAt};
 
 use dsa_scenario::{Action, parse_action};
 use serde_json::Value;
@@ -70,7 +69,7 @@ pub fn parse_step(step: &Value) -> Option<(Action, Observed<'_>)>
 /// The first item that is no step object with what was seen, by its number.
 pub fn first_unread(steps: &[Value]) -> Option<usize>
     ensures { MatchOption result
-        ((observed : List (Action × Seen)) × AreRead (map view steps.now) observed)
+        (AreAllRead (map view steps.now))
         (λ i. IsUnreadAt (map view steps.now) i) }
 {
     for (i, step) in steps.iter().enumerate() {

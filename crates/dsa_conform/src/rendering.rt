@@ -7,7 +7,9 @@ ghost use Rattle.dsa_conform.specs.Run.{IsConformance, IsOtherFault};
 
 use crate::observed::first_unread;
 use crate::walk::walk_steps;
-use dsa_scenario::{Render, Rendering, ScenarioFault, check_head, parse_head, parse_json};
+use dsa_scenario::{
+    Render, Rendered, Rendering, ScenarioFault, check_head, parse_head, parse_json,
+};
 use std::alloc::Global;
 
 /// Whether a document's steps may be answered as was seen, as a way to make a text of it.
@@ -17,7 +19,7 @@ pub struct Conformance;
 impl Render for Conformance {
     ghost is_rendering = { λ conformance bytes fault text. IsConformance bytes fault text };
 
-    fn render(&self, alloc: Global, bytes: &[u8]) -> Result<Rendering, ScenarioFault> {
+    fn render(&self, alloc: Global, bytes: &[u8]) -> Rendered {
         render_conformance(alloc, bytes)
     }
 }
@@ -27,7 +29,7 @@ impl Render for Conformance {
 /// The first object that is no step object with what was seen is told in any case. No step is run
 /// before all objects are read, and of the other faults only those of what is no document come
 /// before.
-pub fn render_conformance(alloc: Global, bytes: &[u8]) -> Result<Rendering, ScenarioFault>
+pub fn render_conformance(alloc: Global, bytes: &[u8]) -> Rendered
     ensures ok { IfOk result (λ r. IsConformance bytes.now r.fault (string_bytes r.text)) }
     ensures err { IfErr result (λ e. (e ≡ ScenarioFault.OutOfMemory) ⊎ IsOtherFault bytes.now e) }
     ensures held { IfOk result (λ r. IfSome r.document (λ value. IsJson bytes.now (view value))) }

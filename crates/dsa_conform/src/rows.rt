@@ -32,7 +32,7 @@ ghost use Rattle.dsa_conform.specs.declared.{told.Told.{Told}, way.Way.{Way}};
 ghost use Rattle.dsa_book.specs.declared.answer.Ticket.{Ticket};
 ghost use Rattle.dsa_conform.specs.ToldLines.{AddsLines, AreLinesTold, HasText, IsLineOf, IsLinePlaced, IsPlaceOf, IsTextTold};
 ghost use Rattle.dsa_conform.specs.Ways.{queue_of_record, queues_taken, AreAdded, AreDevicesAlike, AreFollowed, AreGone, AreGoneOn, AreNamedEnds, AreOn, AreStepped, Covers, IsAdded, IsEngineAlike, IsFollowedOn, IsGone, IsGoneOn, IsOn, IsOneGone, IsReadTo, IsTold, IsWayBy, IsFork, IsNamedEnd, IsOneWay, IsQueueAlike, RunFrom};
-ghost use Rattle.dsa_conform.specs.Worked.{caps_of_two_queues, observed_of_an_error, records_of_one_error, records_of_two_errors, cleared, no_cells, told_allowing, way_at_first, records_of_two_queues, observed_of_two_queues, end_of_second, caps_of_three_queues, answered, flagged, answered_with, nothing_seen, by_enqcmd, by_movdir, observed_of_a_run, record_of_a_take, idle_words, from_first, from_second, from_third, after_some, after_all, after_a_take, line_of, smallest_device_at_first, document_of, poll_with, GoesAtFirst, polled_with, poll_record, nothing_line};
+ghost use Rattle.dsa_conform.specs.Worked.{caps_of_two_queues, observed_of_an_error, records_of_one_error, records_of_two_errors, cleared, no_cells, told_allowing, way_at_first, records_of_two_queues, observed_of_two_queues, end_of_second, caps_of_three_queues, answered, flagged, answered_with, nothing_seen, by_enqcmd, by_movdir, observed_of_a_run, record_of_a_take, idle_words, from_first, from_second, from_third, after_some, after_all, after_a_take, line_of, smallest_device_at_first, document_of, poll_with, GoesAtFirst, polled_with, refused_then_polled, poll_record, nothing_line};
 
 /// What a step object says was seen.
 pub fn observations()
@@ -704,11 +704,8 @@ pub fn devices_gone()
     ensures on { (t : Vec Ticket Global)
         → (a : Way)
         → (told : Told)
-        → IsFollowedTo smallest_caps 9
-        ((Refuse BadCommand, nothing_seen)
-        ∷ (Ask event.Poll, answered (codes "nothing"))
-        ∷ [])
-        2 smallest_device_at_first t.items
+        → IsFollowedTo smallest_caps 9 (refused_then_polled (answered (codes "nothing"))) 2
+        smallest_device_at_first t.items
         → IsGone smallest_caps 9 ((Refuse BadCommand, nothing_seen) ∷ [])
         (Ask event.Poll, answered (codes "nothing")) 1
         smallest_device_at_first (Ok event.Poll) (a ∷ []) (told ∷ [])
@@ -774,11 +771,8 @@ pub fn devices_gone()
     ensures all_on { (t : Vec Ticket Global)
         → IsFollowedTo smallest_caps 9 ((Refuse BadCommand, nothing_seen) ∷ []) 1
         smallest_device_at_first t.items
-        → IsFollowedTo smallest_caps 9
-        ((Refuse BadCommand, nothing_seen)
-        ∷ (Ask event.Poll, answered (codes "nothing"))
-        ∷ [])
-        2 smallest_device_at_first t.items
+        → IsFollowedTo smallest_caps 9 (refused_then_polled (answered (codes "nothing"))) 2
+        smallest_device_at_first t.items
         → AreGone smallest_caps 9 ((Refuse BadCommand, nothing_seen) ∷ [])
         (Ask event.Poll, answered (codes "nothing")) 1 (way_at_first 9 t ∷ [])
         (way_at_first 9 t ∷ []) [] }
@@ -824,8 +818,7 @@ pub fn devices_followed()
     ensures elsewhere { (t : Vec Ticket Global)
         → ¬ AreFollowed smallest_caps 9 [] 0 (way_at_first 8 t ∷ []) }
     ensures second { (a : Way)
-        → AreFollowed smallest_caps 9
-        ((Refuse BadCommand, nothing_seen) ∷ (Ask event.Poll, nothing_seen) ∷ []) 2 (a ∷ [])
+        → AreFollowed smallest_caps 9 (refused_then_polled nothing_seen) 2 (a ∷ [])
         → AreStepped smallest_caps 9 ((Refuse BadCommand, nothing_seen) ∷ [])
         (Ask event.Poll, nothing_seen) 1
         (a ∷ []) None }

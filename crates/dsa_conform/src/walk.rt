@@ -8,7 +8,7 @@ ghost use Rattle.dsa_scenario.specs.declared.actions.Action.{Action};
 ghost use Rattle.dsa_scenario.specs.declared.faults.ScenarioFault.TheVariants.{Differs};
 ghost use Rattle.dsa_conform.specs.Seen.{Seen, seen_as, is_seen};
 ghost use Rattle.dsa_conform.specs.Lines.{conforms_text, seen_count};
-ghost use Rattle.dsa_conform.specs.Run.{AreRead, IsFollowedTo, IsVerdict};
+ghost use Rattle.dsa_conform.specs.Run.{AreAllRead, AreRead, IsFollowedTo, IsVerdict};
 ghost use Rattle.dsa_conform.specs.ToldLines.{IsTextTold};
 ghost use Rattle.dsa_conform.specs.Ways.{AreFollowed, IsOneWay};
 
@@ -126,7 +126,7 @@ fn walk_forked(
 ///
 /// One device is followed up to the first step that more than one queue may have been taken at.
 pub fn walk_steps(alloc: Global, head: &Head<'_>) -> Result<Verdict, AllocError>
-    requires { (observed : List (Action × Seen)) × AreRead (map view head.now.steps.now) observed }
+    requires { AreAllRead (map view head.now.steps.now) }
     ensures { IfOk result
         (λ verdict. IsVerdict head.now.caps head.now.capacity (map view head.now.steps.now)
         verdict.fault (string_bytes verdict.text)) }

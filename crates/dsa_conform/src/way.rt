@@ -7,7 +7,7 @@ ghost use Rattle.dsa_scenario.specs.Run.{answered_by, Leads};
 ghost use Rattle.dsa_book.specs.Work.{qualifies};
 ghost use Rattle.dsa_conform.specs.Allowed.{offer};
 ghost use Rattle.dsa_conform.specs.Seen.{Seen, seen_as};
-ghost use Rattle.dsa_conform.specs.Run.{AreRead, IsFollowedTo};
+ghost use Rattle.dsa_conform.specs.Run.{AreAllRead, IsFollowedTo};
 ghost use Rattle.dsa_conform.specs.Ways.{IsWayBy, queue_of_reply, queue_of_record, queues_taken};
 ghost use Rattle.dsa_regs.specs.declared.Caps.{Caps};
 ghost use Rattle.dsa_book.specs.declared.event.Event.TheVariants as event;
@@ -174,8 +174,7 @@ pub fn walk_again(
     choices: &[u16],
 ) -> Result<Way, AllocError>
     requires inside { count ≤ length head.now.steps.now }
-    requires read { (observed : List (Action × Seen))
-        × AreRead (map view head.now.steps.now) observed }
+    requires read { AreAllRead (map view head.now.steps.now) }
     ensures { IfOk result
         (λ way. IsWayBy head.now.caps head.now.capacity (map view head.now.steps.now) count
         choices.now way) }

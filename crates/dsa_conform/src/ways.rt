@@ -1,10 +1,9 @@
 //! A step of several devices that answer as was seen so far.
 
-ghost use Rattle.std.specs.Prelude.{◌≡◌, ◌+◌, ◌<◌, [], ◌∷◌, ◌++◌, List, true, false, OnOk, IfOk, map, length, option_map, string_bytes};
+ghost use Rattle.std.specs.Prelude.{◌≡◌, ◌+◌, ◌<◌, [], ◌∷◌, ◌++◌, true, false, OnOk, IfOk, map, length, option_map, string_bytes};
 ghost use Rattle.serde_json.specs.View.{view};
-ghost use Rattle.dsa_scenario.specs.declared.actions.Action.{Action};
-ghost use Rattle.dsa_conform.specs.Seen.{Seen, seen_as};
-ghost use Rattle.dsa_conform.specs.Run.{AreRead};
+ghost use Rattle.dsa_conform.specs.Seen.{seen_as};
+ghost use Rattle.dsa_conform.specs.Run.{AreAllRead};
 ghost use Rattle.dsa_conform.specs.Ways.{AreAdded, AreGoneOn, AreOn, IsAdded, IsAmong, IsGoneOn, IsWayBy};
 
 use crate::alike::is_alike;
@@ -50,8 +49,7 @@ fn way_by(
     queue: u16,
 ) -> Result<Way, AllocError>
     requires inside { number < length head.now.steps.now }
-    requires read { (observed : List (Action × Seen))
-        × AreRead (map view head.now.steps.now) observed }
+    requires read { AreAllRead (map view head.now.steps.now) }
     ensures { IfOk result
         (λ way. IsWayBy head.now.caps head.now.capacity (map view head.now.steps.now)
         (number + 1) (choices.now ++ queue ∷ []) way) }
@@ -71,8 +69,7 @@ fn add_forks(
     ways: &mut Vec<Way>,
 ) -> Result<(), AllocError>
     requires inside { number < length head.now.steps.now }
-    requires read { (observed : List (Action × Seen))
-        × AreRead (map view head.now.steps.now) observed }
+    requires read { AreAllRead (map view head.now.steps.now) }
     ensures { OnOk result
         (AreAdded head.now.caps head.now.capacity (map view head.now.steps.now) number choices.now
         queues.now ways.old.items ways.new.items) }
@@ -96,8 +93,7 @@ fn go_on(
     tolds: &mut Vec<Told>,
 ) -> Result<(), AllocError>
     requires inside { number < length head.now.steps.now }
-    requires read { (observed : List (Action × Seen))
-        × AreRead (map view head.now.steps.now) observed }
+    requires read { AreAllRead (map view head.now.steps.now) }
     ensures { OnOk result
         (IsGoneOn head.now.caps head.now.capacity (map view head.now.steps.now)
         (action, seen_as seen.now) number way ways.old.items tolds.old.items ways.new.items
@@ -134,8 +130,7 @@ fn go_all(
     ways: &mut Vec<Way>,
 ) -> Result<Vec<Told>, AllocError>
     requires inside { number < length head.now.steps.now }
-    requires read { (observed : List (Action × Seen))
-        × AreRead (map view head.now.steps.now) observed }
+    requires read { AreAllRead (map view head.now.steps.now) }
     requires none { ways.old.items ≡ [] }
     ensures { IfOk result
         (λ tolds. AreGoneOn head.now.caps head.now.capacity (map view head.now.steps.now)
@@ -159,8 +154,7 @@ pub fn walk_ways(
     seen: &Observed<'_>,
 ) -> Result<Option<String>, AllocError>
     requires inside { number < length head.now.steps.now }
-    requires read { (observed : List (Action × Seen))
-        × AreRead (map view head.now.steps.now) observed }
+    requires read { AreAllRead (map view head.now.steps.now) }
     ensures { IfOk result
         (λ differs. AreOn head.now.caps head.now.capacity (map view head.now.steps.now)
         (action, seen_as seen.now) number ways.old.items ways.new.items

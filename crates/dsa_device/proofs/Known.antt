@@ -1,5 +1,5 @@
 -- What the laws of the machine say of a device.
-use Rattle.std.proofs.Common.{◌≡◌, ◌≢◌, ℕ, suc, ◌+◌, ◌^◌, ◌<◌, ◌≤◌, ◌==◌, true, false, List, [], ◌∷◌, length}
+use Rattle.std.proofs.Common.{◌≡◌, ◌≢◌, ℕ, suc, ◌+◌, ◌^◌, ◌<◌, ◌≤◌, ◌==◌, Bool, true, false, List, [], ◌∷◌, length}
 use Rattle.std.proofs.Common.{Option, Some, None, refl, sym, ap, ◌∙◌, arith, get_or}
 use Rattle.std.proofs.lemmas.Bool.{lt-ltb, ltb-true, eqb-false, not-true, and_parts, cond_both}
 use Rattle.std.proofs.lemmas.List.{get_or-replicate}
@@ -16,9 +16,10 @@ use Rattle.dsa_book.specs.State.{is_off, has_queue}
 use Rattle.dsa_book.specs.Work.{used, all_used, members, member_list, note_at, batch_on, is_all_fetched}
 use Rattle.dsa_queues.specs.Queues.{intake, is_accepting}
 use Rattle.dsa_laws.specs.WellFormed.{IsWellFormed, none_runs, runs_first}
-use Rattle.dsa_laws.proofs.{Histories.{replay-well_formed}}
+use Rattle.dsa_laws.proofs.{Histories.{replay-well_formed}, Orders.{none-first}}
 use Rattle.dsa_accounts.proofs.{FreeCells.{accepting-room, fetching-room, queue-fits}, Totals.{replay-names-le}}
-use Rattle.dsa_engines.specs.Engines.{EnginesState, WaitInOrder, IsInPlace, is_fetching, is_running, lists_alone}
+use Rattle.dsa_engines.specs.Engines.{EnginesState, WaitInOrder, IsInPlace, QueuesRise, is_fetching}
+use Rattle.dsa_engines.specs.Engines.{is_running, lists_alone}
 use Rattle.dsa_engines.proofs.{Used.{buffers-at_rest}}
 use Rattle.dsa_buffers.specs.Buffers.{Buffers}
 use Rattle.dsa_device.specs.Running.{Running, IsReplay, IsWholeDevice}
@@ -72,8 +73,11 @@ none_runs-filter (pair ∷ rest) h = cond_both pair.1.running (pair ∷ filter i
 
 wait_in_order : (xs : List HeldEntry) → runs_first xs ≡ true → WaitInOrder xs
 wait_in_order [] h = tt
-wait_in_order (pair ∷ rest) h = λ waits.
-    none_runs-filter rest (rw waits at h)
+wait_in_order (pair ∷ rest) h = ((λ waits. none_runs-filter rest (rw waits at h)), wait_in_order rest (go pair.1.running refl))
+  where
+    go : (b : Bool) → pair.1.running ≡ b → runs_first rest ≡ true
+    go true is = rw is at h
+    go false is = none-first rest (rw is at h)
 
 pub members_wait : (d : Running) (engine : ℕ) → IsReplay d
     → WaitInOrder (members (lists_alone d.state.work.setup d.state.work.content) engine)
@@ -117,6 +121,11 @@ in_place d i =
       queued = λ q pair h at. (placed q pair at).queue (omega (arith, h, queues));
       members = λ e pair h at. (placed (member_list w.setup e) pair at).member (omega (arith, queues, engines));
     }
+
+pub queues_rise : (d : Running) → IsReplay d → QueuesRise d.state.work.setup d.state.work.content
+queues_rise d i =
+    let same = ap (λ (c : Caps). c.queues) (well_formed d i).shape.same_caps in
+    λ q h. (well_formed d i).rising q (omega (arith, h, same))
 
 -- ---- what a reader of the occupancy asks
 

@@ -2,7 +2,7 @@
 use Rattle.std.specs.Prelude.{ℕ, ◌+◌, ◌-◌, ◌*◌, ◌%◌, ◌==◌, cond, List, [], ◌∷◌, ◌++◌, codes, decimal}
 use Rattle.dsa_event_text.specs.Text.{event_text}
 use Rattle.dsa_scenario.specs.{declared.run.Record.{Record, TheVariants.{Stepped, Refused}}, Lines.{record_text}}
-use Rattle.dsa_draw.specs.{declared.moment.Moment.{Moment}, Bands.{next_step}}
+use Rattle.dsa_draw.specs.{declared.moment.Moment.{Moment}, Bands.{next_step}, Pages.{rect_text}}
 
 -- what was asked; a word that is no command is no event (profile)
 abbrev pub asked_text : Record → List ℕ
@@ -16,16 +16,11 @@ unfoldable pub title_text : ℕ → Record → List ℕ
 title_text step entry =
     codes "step " ++ decimal step ++ codes ": " ++ asked_text entry ++ codes ": " ++ record_text entry
 
--- where a column begins, and how high it is on a page that is so high
-unfoldable pub left_text : ℕ → List ℕ
-left_text step = codes "<rect class=\"column\" x=\"" ++ decimal (112 + 14 * step) ++ codes "\""
-
-unfoldable pub high_text : ℕ → List ℕ
-high_text height = codes " y=\"80\" width=\"14\" height=\"" ++ decimal (height - 80) ++ codes "\"><title>"
-
+-- a column on a page that is so high
 abbrev pub column_text : ℕ → ℕ → Record → List ℕ
 column_text height step entry =
-    left_text step ++ high_text height ++ title_text step entry ++ codes "</title></rect>\n"
+    rect_text (codes "column") step 80 14 (height - 80) ++ codes "><title>" ++ title_text step entry
+    ++ codes "</title></rect>\n"
 
 -- a line, and the number of the step behind it
 unfoldable pub grid_text : ℕ → ℕ → List ℕ

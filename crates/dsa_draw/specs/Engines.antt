@@ -7,7 +7,7 @@ use Rattle.dsa_book.specs.Totals.{actor_of, same_actor}
 use Rattle.dsa_scenario.specs.declared.run.Record.{Record, TheVariants.{Stepped, Refused}}
 use Rattle.dsa_scenario.specs.Lines.{two_digits}
 use Rattle.dsa_draw.specs.declared.{bars.{Bar.{Bar}, End.{End}}, engines.Lanes.{Lanes}, moment.Moment.{Moment}}
-use Rattle.dsa_draw.specs.{Marks.{mark_of}, Bands.{next_step, lower_end, numbered_text}, Pages.{mark_text, rule_text}}
+use Rattle.dsa_draw.specs.{Marks.{mark_of}, Bands.{next_step, lower_end, numbered_text}, Pages.{mark_text, rect_text, rule_text, small_number_text}}
 use Rattle.dsa_draw.specs.Bars.{end_step, in_lanes, all_lanes, lane_count}
 
 -- ---- marks
@@ -71,10 +71,8 @@ bar_title_text bar =
     ++ begin_phrase bar.begin ++ end_phrase bar.end ++ codes "</title>"
 
 -- over the columns from `begin` on to before `end`
-unfoldable pub box_text : List ℕ → ℕ → ℕ → ℕ → List ℕ
-box_text class begin end y =
-    codes "<rect class=\"" ++ class ++ codes "\" x=\"" ++ decimal (112 + 14 * begin) ++ codes "\" y=\"" ++ decimal y
-    ++ codes "\" width=\"" ++ decimal (14 * (end - begin)) ++ codes "\" height=\"11\" rx=\"2\"/>"
+abbrev pub box_text : List ℕ → ℕ → ℕ → ℕ → List ℕ
+box_text class begin end y = rect_text class begin y (14 * (end - begin)) 11 ++ codes " rx=\"2\"/>"
 
 abbrev pub box_part_text : List ℕ → ℕ → ℕ → ℕ → List ℕ
 box_part_text class begin end y = cond (nat_lt begin end) (box_text class begin end y) []
@@ -83,15 +81,10 @@ box_part_text class begin end y = cond (nat_lt begin end) (box_text class begin 
 abbrev pub name_room : ℕ → ℕ
 name_room name = cond (nat_lt name 100) 14 (cond (nat_lt name 10_000) 28 56)
 
-unfoldable pub bar_label_text : ℕ → ℕ → ℕ → List ℕ
-bar_label_text name begin base =
-    codes "<text class=\"label\" x=\"" ++ decimal (112 + 14 * begin + 2) ++ codes "\" y=\"" ++ decimal base
-    ++ codes "\">" ++ decimal name ++ codes "</text>"
-
 -- the name of the entry, where the bar has room for it
 abbrev pub bar_name_text : Bar → ℕ → ℕ → List ℕ
 bar_name_text bar end base =
-    cond (nat_lt (14 * (end - bar.begin)) (name_room bar.name)) [] (bar_label_text bar.name bar.begin base)
+    cond (nat_lt (14 * (end - bar.begin)) (name_room bar.name)) [] (small_number_text bar.begin base bar.name)
 
 -- members are in lanes below those of what the engine took from queues
 abbrev pub lane_by : Lanes → ℕ → Option ℕ → ℕ
@@ -125,21 +118,16 @@ bars_text engine lanes (bar ∷ bars) =
 abbrev pub lanes_bottom : Lanes → ℕ
 lanes_bottom lanes = lanes.top + 13 * lower_end lanes.taken lanes.members
 
-unfoldable pub batch_box_text : ℕ → ℕ → ℕ → ℕ → List ℕ
-batch_box_text begin end y bottom =
-    codes "<rect class=\"batch\" x=\"" ++ decimal (112 + 14 * begin) ++ codes "\" y=\"" ++ decimal y
-    ++ codes "\" width=\"" ++ decimal (14 * (end - begin)) ++ codes "\" height=\"" ++ decimal (bottom - y)
-    ++ codes "\">"
-
 unfoldable pub batch_title_text : ℕ → ℕ → List ℕ
 batch_title_text engine name =
-    codes "<title>batch of e" ++ decimal engine ++ codes ": batch " ++ decimal name
+    codes "><title>batch of e" ++ decimal engine ++ codes ": batch " ++ decimal name
     ++ codes " and its members</title></rect>\n"
 
 -- a box around a batch and its members
 abbrev pub batch_text : Lanes → Bar → List ℕ
 batch_text lanes bar =
-    batch_box_text bar.begin (end_step lanes.last bar) (lanes.top + 13 * bar.lane) (lanes_bottom lanes)
+    rect_text (codes "batch") bar.begin (lanes.top + 13 * bar.lane) (14 * (end_step lanes.last bar - bar.begin))
+    (lanes_bottom lanes - (lanes.top + 13 * bar.lane))
     ++ batch_title_text bar.engine bar.name
 
 abbrev pub batches_text : ℕ → Lanes → List Bar → List ℕ

@@ -25,6 +25,18 @@ unfoldable pub sheet_text : ℕ → ℕ → List ℕ
 sheet_text width height =
     codes "<rect class=\"sheet\" width=\"" ++ decimal width ++ codes "\" height=\"" ++ decimal height ++ codes "\"/>\n"
 
+-- a rectangle from the left of the column of a step on, whose tag is left open
+unfoldable pub rect_text : List ℕ → ℕ → ℕ → ℕ → ℕ → List ℕ
+rect_text class step y wide high =
+    codes "<rect class=\"" ++ class ++ codes "\" x=\"" ++ decimal (112 + 14 * step) ++ codes "\" y=\"" ++ decimal y
+    ++ codes "\" width=\"" ++ decimal wide ++ codes "\" height=\"" ++ decimal high ++ codes "\""
+
+-- a small number in the column of a step
+unfoldable pub small_number_text : ℕ → ℕ → ℕ → List ℕ
+small_number_text step base number =
+    codes "<text class=\"label\" x=\"" ++ decimal (112 + 14 * step + 2) ++ codes "\" y=\"" ++ decimal base
+    ++ codes "\">" ++ decimal number ++ codes "</text>"
+
 -- the head of a page of so many steps, so high
 abbrev pub head_text : ℕ → ℕ → List ℕ
 head_text steps height =

@@ -10,7 +10,7 @@ use Rattle.dsa_regs.specs.Command.{command_label}
 use Rattle.dsa_scenario.specs.declared.run.Record.{Record, TheVariants.{Stepped, Refused}}
 use Rattle.dsa_scenario.specs.Lines.{line_of_text, row_text}
 use Rattle.dsa_draw.specs.declared.{marks.Mark.{Mark, TheVariants.{Done, Failed}}, moment.Moment.{Moment}}
-use Rattle.dsa_draw.specs.{Marks.{mark_of}, Bands.{next_step}, Pages.{row_name_text, rule_text, mark_text}}
+use Rattle.dsa_draw.specs.{Marks.{mark_of}, Bands.{next_step}, Pages.{row_name_text, rect_text, rule_text, mark_text, small_number_text}}
 
 -- ---- names of commands
 
@@ -62,21 +62,11 @@ abbrev pub ended_title_text : ℕ → List FateRow → List ℕ
 ended_title_text step rows =
     ended_head_text step ++ flat_map (λ row. line_of_text (row_text row)) rows ++ codes "</title>"
 
-unfoldable pub ended_box_text : ℕ → List ℕ
-ended_box_text step =
-    codes "<rect class=\"column\" x=\"" ++ decimal (112 + 14 * step)
-    ++ codes "\" y=\"128\" width=\"14\" height=\"16\"/>"
-
--- how many ended, where one was not alone
-unfoldable pub ended_count_text : ℕ → ℕ → List ℕ
-ended_count_text step count =
-    codes "<text class=\"label\" x=\"" ++ decimal (112 + 14 * step + 2) ++ codes "\" y=\"151\">" ++ decimal count
-    ++ codes "</text>"
-
+-- and how many ended, where one was not alone
 abbrev pub ended_text : ℕ → List FateRow → Mark → List ℕ
 ended_text step rows mark =
-    ended_title_text step rows ++ ended_box_text step
-    ++ cond (nat_lt 1 (length rows)) (ended_count_text step (length rows)) [] ++ mark_text mark step 128
+    ended_title_text step rows ++ rect_text (codes "column") step 128 14 16 ++ codes "/>"
+    ++ cond (nat_lt 1 (length rows)) (small_number_text step 151 (length rows)) [] ++ mark_text mark step 128
     ++ codes "</g>\n"
 
 -- the mark is that of the last entry that ended; there is none where none did

@@ -15,19 +15,18 @@ use Rattle.dsa_device.specs.Running.{Running, running_at_first}
 use Rattle.dsa_regs.specs.{Config.{zero_group}, declared.Caps.{Caps}}
 use Rattle.dsa_desc.specs.declared.Outcome.TheVariants.{Success}
 use Rattle.dsa_scenario.specs.declared.run.Record.{Record}
-use Rattle.dsa_scenario.specs.{Steps.{Visit, visit}, Worked.{digits_on_literals, fill, group_of_a_run, queue_of_a_run}}
+use Rattle.dsa_scenario.specs.{Steps.{Visit, visit}, Worked.{caps_of_a_run, digits_on_literals, fill, group_of_a_run, queue_of_a_run}}
 use Rattle.dsa_scenario.specs.Worked.{accepted, record_ticket, stepped}
 use Rattle.dsa_draw.specs.declared.{bars.{Bar.{Bar}, End.{End}}, engines.Lanes.{Lanes}}
 use Rattle.dsa_draw.specs.declared.bands.Band.{Band}
 use Rattle.dsa_draw.specs.declared.moment.{BandKind.TheVariants.{Queue, Group}, Level.{Level}, Moment.{Moment}}
 use Rattle.dsa_draw.specs.declared.run.Story.{Story}
 use Rattle.dsa_draw.specs.Pages.{svg_text, page_size_text, view_text, sheet_text, row_name_text, rule_text, dot_text}
-use Rattle.dsa_draw.specs.Pages.{cross_text}
+use Rattle.dsa_draw.specs.Pages.{cross_text, rect_text, small_number_text}
 use Rattle.dsa_draw.specs.Bands.{lines_text, frame_text, name_text, band_range_text, band_text}
-use Rattle.dsa_draw.specs.Columns.{title_text, left_text, high_text, grid_text, label_text}
-use Rattle.dsa_draw.specs.Rows.{command_name_text, ended_head_text, ended_box_text, ended_count_text, names_above_text}
-use Rattle.dsa_draw.specs.Engines.{kind_phrase, holder_phrase, begin_phrase, bar_title_text, box_text, bar_label_text}
-use Rattle.dsa_draw.specs.Engines.{batch_box_text, batch_title_text}
+use Rattle.dsa_draw.specs.Columns.{title_text, grid_text, label_text}
+use Rattle.dsa_draw.specs.Rows.{command_name_text, ended_head_text, names_above_text}
+use Rattle.dsa_draw.specs.Engines.{kind_phrase, holder_phrase, begin_phrase, bar_title_text, batch_title_text}
 
 -- the band of the queue, or of the group, with this number
 abbrev pub queue_band : ℕ → Band
@@ -38,10 +37,10 @@ group_band number = record { kind = Group; number = number }
 
 -- what the rows unfold to compute texts
 unfoldable pub drawn_on_literals : ⊤
-unfolding digits_on_literals lines_text frame_text name_text band_range_text band_text title_text left_text high_text
-    grid_text label_text svg_text page_size_text view_text sheet_text row_name_text rule_text dot_text cross_text
-    command_name_text ended_head_text ended_box_text ended_count_text names_above_text kind_phrase holder_phrase
-    begin_phrase bar_title_text box_text bar_label_text batch_box_text batch_title_text
+unfolding digits_on_literals lines_text frame_text name_text band_range_text band_text title_text grid_text label_text
+    svg_text page_size_text view_text sheet_text rect_text small_number_text row_name_text rule_text dot_text
+    cross_text command_name_text ended_head_text names_above_text kind_phrase holder_phrase begin_phrase
+    bar_title_text batch_title_text
 drawn_on_literals = tt
 
 -- the fate row of an entry that no batch has
@@ -124,16 +123,7 @@ moments_with_levels memory =
 -- ---- a story of three engines' steps on a device of two
 
 abbrev pub caps_of_a_drawing : Caps
-caps_of_a_drawing = record {
-  queues = 1;
-  groups = 3;
-  engines = 2;
-  total_size = 16;
-  read_buffers = 32;
-  slots = 4;
-  max_batch_shift = 5;
-  max_xfer_shift = 20;
-}
+caps_of_a_drawing = record caps_of_a_run { groups = 3; engines = 2; max_batch_shift = 5 }
 
 -- the level of its queue, and none of its groups
 abbrev pub moment_of_a_story : Global → Record → ℕ → ℕ → Moment

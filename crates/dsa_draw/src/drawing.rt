@@ -3,9 +3,9 @@
 ghost use Rattle.std.specs.Prelude.{◌≡◌, ◌++◌, ◌==◌, cond, nat_lt, [], IfOk, OnOk, string_bytes};
 ghost use Rattle.std.specs.List.{range_with_len};
 ghost use Rattle.dsa_event_text.specs.Added.{Adds};
-ghost use Rattle.dsa_draw.specs.Columns.{asked_text, title_text, left_text, high_text, column_text, grid_text, label_text, step_number_text, fifth_text, columns_text};
-ghost use Rattle.dsa_draw.specs.Rows.{command_name_text, event_name_text, label_above_text, asker_of, asker_text, fate_mark, ended_head_text, ended_title_text, ended_box_text, ended_count_text, ended_text, fates_text, marks_of_step_text, marks_above_text, names_above_text, rows_above_text};
-ghost use Rattle.dsa_draw.specs.Engines.{engines_text, engines_end};
+ghost use Rattle.dsa_draw.specs.Columns.{asked_text, title_text, column_text, grid_text, label_text, step_number_text, fifth_text, columns_text};
+ghost use Rattle.dsa_draw.specs.Rows.{command_name_text, event_name_text, label_above_text, asker_of, asker_text, fate_mark, ended_head_text, ended_title_text, ended_text, fates_text, marks_of_step_text, marks_above_text, names_above_text, rows_above_text};
+ghost use Rattle.dsa_draw.specs.{Engines.{engines_text, engines_end}, Pages.{small_number_text}};
 ghost use Rattle.dsa_draw.specs.Drawings.{step_count, IsTextOf};
 
 use crate::bands::{add_bands, bands_of};
@@ -14,7 +14,7 @@ use crate::engines::add_engine;
 use crate::geometry::column_left;
 use crate::marks::{Mark, mark_of};
 use crate::moment::Moment;
-use crate::page::{add_foot, add_head, add_mark, add_name, add_rule};
+use crate::page::{add_foot, add_head, add_mark, add_name, add_rect, add_rule, add_small_number};
 use crate::run::Story;
 use dsa_book::{Actor, Event, Fate, FateRow};
 use dsa_event_text::{Added, add_event};
@@ -56,28 +56,20 @@ fn add_title(text: &mut String, entry: &Record, step: u32) -> Added
     add_answer(text, entry)
 }
 
-#[tactic(auto, unfolding(crate::specs::Columns::left_text))]
-fn add_left(text: &mut String, step: u32) -> Added
-    ensures { Adds result text.old text.new (left_text step) }
-{
-    let x = column_left(step);
-    write!(text, "<rect class=\"column\" x=\"{x}\"")
-}
-
-#[tactic(auto, unfolding(crate::specs::Columns::high_text))]
-fn add_high(text: &mut String, height: u32) -> Added
-    ensures { Adds result text.old text.new (high_text height) }
-{
-    let high = height.saturating_sub(NUMBERS);
-    write!(text, " y=\"80\" width=\"14\" height=\"{high}\"><title>")
-}
-
 // A column has the step as its title.
 fn add_column(text: &mut String, entry: &Record, step: u32, height: u32) -> Added
     ensures { Adds result text.old text.new (column_text height step entry.now) }
 {
-    add_left(text, step)?;
-    add_high(text, height)?;
+    let high = height.saturating_sub(NUMBERS);
+    add_rect(
+        text,
+        "column",
+        step,
+        u64::from(NUMBERS),
+        14,
+        u64::from(high),
+    )?;
+    text.push_str("><title>")?;
     add_title(text, entry, step)?;
     write!(text, "</title></rect>\n")
 }
@@ -217,34 +209,12 @@ fn add_ended_title(text: &mut String, rows: &[FateRow], step: u32) -> Added
     text.push_str("</title>")
 }
 
-#[tactic(auto, unfolding(crate::specs::Rows::ended_box_text))]
-fn add_ended_box(text: &mut String, step: u32) -> Added
-    ensures { Adds result text.old text.new (ended_box_text step) }
-{
-    let x = column_left(step);
-    write!(
-        text,
-        "<rect class=\"column\" x=\"{x}\" y=\"128\" width=\"14\" height=\"16\"/>"
-    )
-}
-
-#[tactic(auto, unfolding(crate::specs::Rows::ended_count_text))]
-fn add_ended_count(text: &mut String, step: u32, count: usize) -> Added
-    ensures { Adds result text.old text.new (ended_count_text step count) }
-{
-    let x = column_left(step) + 2;
-    write!(
-        text,
-        "<text class=\"label\" x=\"{x}\" y=\"151\">{count}</text>"
-    )
-}
-
 fn add_ended_many(text: &mut String, step: u32, count: usize) -> Added
     ensures { Adds result text.old text.new
-        (cond (nat_lt 1 count) (ended_count_text step count) []) }
+        (cond (nat_lt 1 count) (small_number_text step 151 count) []) }
 {
     if count > 1 {
-        add_ended_count(text, step, count)
+        add_small_number(text, step, 151, count as u64)
     } else {
         Ok(())
     }
@@ -254,7 +224,8 @@ fn add_ended(text: &mut String, rows: &[FateRow], mark: Mark, step: u32) -> Adde
     ensures { Adds result text.old text.new (ended_text step rows.now mark) }
 {
     add_ended_title(text, rows, step)?;
-    add_ended_box(text, step)?;
+    add_rect(text, "column", step, u64::from(FATES), 14, 16)?;
+    text.push_str("/>")?;
     add_ended_many(text, step, rows.len())?;
     add_mark(text, mark, step, FATES)?;
     text.push_str("</g>\n")

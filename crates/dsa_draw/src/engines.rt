@@ -5,13 +5,13 @@ ghost use Rattle.std.specs.Fmt.{digit_glyph};
 ghost use Rattle.dsa_event_text.specs.Added.{Adds};
 ghost use Rattle.dsa_scenario.specs.Lines.{two_digits};
 ghost use Rattle.dsa_draw.specs.Bars.{end_step};
-ghost use Rattle.dsa_draw.specs.Engines.{is_step_by, has_steps, engine_mark_text, engine_marks_text, class_of_fate, class_of_end, fate_phrase, kind_phrase, holder_phrase, parent_phrase, begin_phrase, end_phrase, bar_title_text, box_text, box_part_text, name_room, bar_label_text, bar_name_text, lane_by, bar_top, boxes_text, bar_text, bars_text, lanes_bottom, batch_box_text, batch_title_text, batch_text, batches_text, taken_in_lanes, bars_in_lanes, lanes_of, engine_bottom, engine_rows_text, engine_part_text, engine_end};
+ghost use Rattle.dsa_draw.specs.Engines.{is_step_by, has_steps, engine_mark_text, engine_marks_text, class_of_fate, class_of_end, fate_phrase, kind_phrase, holder_phrase, parent_phrase, begin_phrase, end_phrase, bar_title_text, box_text, box_part_text, name_room, bar_name_text, lane_by, bar_top, boxes_text, bar_text, bars_text, lanes_bottom, batch_title_text, batch_text, batches_text, taken_in_lanes, bars_in_lanes, lanes_of, engine_bottom, engine_rows_text, engine_part_text, engine_end};
 
 use crate::bars::{Bar, End, lay_bars};
-use crate::geometry::{column_left, columns_wide, lane_top};
+use crate::geometry::{columns_wide, lane_top};
 use crate::marks::mark_of;
 use crate::moment::Moment;
-use crate::page::{add_mark, add_numbered, add_rule};
+use crate::page::{add_mark, add_numbered, add_rect, add_rule, add_small_number};
 use dsa_book::{Actor, Fate};
 use dsa_event_text::Added;
 use dsa_scenario::Record;
@@ -181,16 +181,11 @@ fn add_bar_title(text: &mut String, bar: &Bar) -> Added
     text.push_str("</title>")
 }
 
-#[tactic(auto, unfolding(crate::specs::Engines::box_text))]
 fn add_box(text: &mut String, class: &str, begin: u32, end: u32, y: u64) -> Added
     ensures { Adds result text.old text.new (box_text class.now begin end y) }
 {
-    let x = column_left(begin);
-    let wide = columns_wide(begin, end);
-    write!(
-        text,
-        "<rect class=\"{class}\" x=\"{x}\" y=\"{y}\" width=\"{wide}\" height=\"11\" rx=\"2\"/>"
-    )
+    add_rect(text, class, begin, y, columns_wide(begin, end), 11)?;
+    text.push_str(" rx=\"2\"/>")
 }
 
 // A box has a column at least.
@@ -216,17 +211,6 @@ fn name_room(name: u32) -> u64
     }
 }
 
-#[tactic(auto, unfolding(crate::specs::Engines::bar_label_text))]
-fn add_bar_label(text: &mut String, name: u32, begin: u32, base: u64) -> Added
-    ensures { Adds result text.old text.new (bar_label_text name begin base) }
-{
-    let x = column_left(begin) + 2;
-    write!(
-        text,
-        "<text class=\"label\" x=\"{x}\" y=\"{base}\">{name}</text>"
-    )
-}
-
 // The name stands in a bar that is wide enough for it.
 fn add_bar_name(text: &mut String, bar: &Bar, end: u32, base: u64) -> Added
     ensures { Adds result text.old text.new (bar_name_text bar.now end base) }
@@ -234,7 +218,7 @@ fn add_bar_name(text: &mut String, bar: &Bar, end: u32, base: u64) -> Added
     if columns_wide(bar.begin, end) < name_room(bar.name) {
         return Ok(());
     }
-    add_bar_label(text, bar.name, bar.begin, base)
+    add_small_number(text, bar.begin, base, u64::from(bar.name))
 }
 
 fn lane_of(bar: &Bar, lanes: Lanes) -> u32
@@ -289,26 +273,13 @@ fn add_bars(text: &mut String, bars: &[Bar], engine: u16, lanes: Lanes) -> Added
 
 // ---- batches
 
-#[tactic(auto, unfolding(crate::specs::Engines::batch_box_text))]
-fn add_batch_box(text: &mut String, begin: u32, end: u32, y: u64, bottom: u64) -> Added
-    ensures { Adds result text.old text.new (batch_box_text begin end y bottom) }
-{
-    let x = column_left(begin);
-    let wide = columns_wide(begin, end);
-    let high = bottom.saturating_sub(y);
-    write!(
-        text,
-        "<rect class=\"batch\" x=\"{x}\" y=\"{y}\" width=\"{wide}\" height=\"{high}\">"
-    )
-}
-
 #[tactic(auto, unfolding(crate::specs::Engines::batch_title_text))]
 fn add_batch_title(text: &mut String, engine: u16, name: u32) -> Added
     ensures { Adds result text.old text.new (batch_title_text engine name) }
 {
     write!(
         text,
-        "<title>batch of e{engine}: batch {name} and its members</title></rect>\n"
+        "><title>batch of e{engine}: batch {name} and its members</title></rect>\n"
     )
 }
 
@@ -318,7 +289,8 @@ fn add_batch(text: &mut String, bar: &Bar, lanes: Lanes) -> Added
 {
     let y = lane_top(lanes.top, bar.lane);
     let bottom = lane_top(lanes.top, lanes.taken.saturating_add(lanes.members));
-    add_batch_box(text, bar.begin, bar.end_step(lanes.last), y, bottom)?;
+    let wide = columns_wide(bar.begin, bar.end_step(lanes.last));
+    add_rect(text, "batch", bar.begin, y, wide, bottom.saturating_sub(y))?;
     add_batch_title(text, bar.engine, bar.name)
 }
 

@@ -2,7 +2,7 @@
 
 ghost use Rattle.dsa_event_text.specs.Added.{Adds};
 ghost use Rattle.dsa_draw.specs.Bands.{numbered_text};
-ghost use Rattle.dsa_draw.specs.Pages.{svg_text, page_size_text, view_text, style_text, sheet_text, head_text, foot_text, row_name_text, rule_text, dot_text, cross_text, mark_text};
+ghost use Rattle.dsa_draw.specs.Pages.{svg_text, page_size_text, view_text, style_text, sheet_text, rect_text, small_number_text, head_text, foot_text, row_name_text, rule_text, dot_text, cross_text, mark_text};
 
 use crate::geometry::{column_left, columns_wide};
 use crate::marks::Mark;
@@ -63,6 +63,30 @@ fn add_sheet(text: &mut String, width: u64, height: u32) -> Added
     write!(
         text,
         "<rect class=\"sheet\" width=\"{width}\" height=\"{height}\"/>\n"
+    )
+}
+
+/// Begins a rectangle from the left of the column of a step on. Its tag is left open.
+#[tactic(auto, unfolding(crate::specs::Pages::rect_text))]
+pub fn add_rect(text: &mut String, class: &str, step: u32, y: u64, wide: u64, high: u64) -> Added
+    ensures { Adds result text.old text.new (rect_text class.now step y wide high) }
+{
+    let x = column_left(step);
+    write!(
+        text,
+        "<rect class=\"{class}\" x=\"{x}\" y=\"{y}\" width=\"{wide}\" height=\"{high}\""
+    )
+}
+
+/// A small number in the column of a step.
+#[tactic(auto, unfolding(crate::specs::Pages::small_number_text))]
+pub fn add_small_number(text: &mut String, step: u32, base: u64, number: u64) -> Added
+    ensures { Adds result text.old text.new (small_number_text step base number) }
+{
+    let x = column_left(step) + 2;
+    write!(
+        text,
+        "<text class=\"label\" x=\"{x}\" y=\"{base}\">{number}</text>"
     )
 }
 

@@ -5,12 +5,12 @@ ghost use Rattle.dsa_draw.specs.Drawings.{AreMoments, IsDrawnOf, IsDrawingOf};
 
 use crate::drawing::draw;
 use crate::moment::{Moment, take_moment};
-use dsa_book::{Event, FateRow};
+use dsa_book::FateRow;
 use dsa_device::Device;
-use dsa_regs::{Caps, Fault};
-use dsa_scenario::{Record, Render, RenderSteps, Rendering, ScenarioFault, render_steps};
+use dsa_regs::Caps;
+use dsa_scenario::{Added, Asked, MadeText, Render, RenderSteps, Rendered, StepMade, render_steps};
 use dsa_store::EntryStore;
-use std::alloc::{AllocError, Global};
+use std::alloc::Global;
 
 /// What there is to draw of a run.
 #[derive(Drop)]
@@ -39,25 +39,12 @@ impl RenderSteps for Drawing {
         Vec::new(alloc)
     }
 
-    fn look<S: EntryStore>(
-        &self,
-        alloc: Global,
-        _device: &Device<S>,
-        _asked: &Result<Event, Fault>,
-    ) -> Result<String, AllocError> {
+    fn look<S: EntryStore>(&self, alloc: Global, _device: &Device<S>, _asked: &Asked) -> MadeText {
         Ok(String::new(alloc))
     }
 
-    fn add_step<S: EntryStore>(
-        &self,
-        alloc: Global,
-        page: &mut Vec<Moment>,
-        _number: usize,
-        _told: &str,
-        entry: &Record,
-        device: &Device<S>,
-    ) -> Result<(), AllocError> {
-        let moment = take_moment(alloc, device, *entry)?;
+    fn add_step<S: EntryStore>(&self, page: &mut Vec<Moment>, step: &StepMade<'_, S>) -> Added {
+        let moment = take_moment(step.alloc, step.device, *step.entry)?;
         page.push(moment)?;
         Ok(())
     }
@@ -67,7 +54,7 @@ impl RenderSteps for Drawing {
         alloc: Global,
         page: Vec<Moment>,
         device: &Device<S>,
-    ) -> Result<String, AllocError> {
+    ) -> MadeText {
         let mut fates = Vec::new(alloc);
         fates.extend_from_slice(device.fates())?;
         let story = Story {
@@ -82,7 +69,7 @@ impl RenderSteps for Drawing {
 impl Render for Drawing {
     ghost is_rendering = { λ drawing bytes fault text. (fault ≡ None) × IsDrawingOf bytes text };
 
-    fn render(&self, alloc: Global, bytes: &[u8]) -> Result<Rendering, ScenarioFault> {
+    fn render(&self, alloc: Global, bytes: &[u8]) -> Rendered {
         render_steps(alloc, self, bytes)
     }
 }

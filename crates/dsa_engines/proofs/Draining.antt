@@ -1,14 +1,14 @@
 -- The first entry that a Drain waits for, list by list.
 use Rattle.std.proofs.Common.{◌≡◌, ◌≢◌, ℕ, ◌+◌, ◌-◌, ◌<◌, ◌≤◌, true, false, length, List, Option, Some, None}
-use Rattle.std.proofs.Common.{inl, inr, refl, sym, ◌∙◌, arith}
-use Rattle.std.proofs.lemmas.{Grind.{common_steps}, Bool.{cases_lt, cases_eq}}
-use Rattle.std.specs.Prelude.{find, is_some}
+use Rattle.std.proofs.Common.{inl, inr, refl, sym, ◌∙◌, arith, get_or}
+use Rattle.std.proofs.lemmas.{Grind.{common_steps}, Bool.{cases_lt, cases_eq, ltb-false, le-ltb}}
+use Rattle.std.specs.{Prelude.{find, is_some, nat_lt}, List.{take_while}}
 use Rattle.dsa_base.{specs.Lists.{In}, proofs.Lists.{In-find}}
 use Rattle.dsa_store.specs.{declared.entry.Entry.{Entry}, Content.{HeldEntry, Content, chain, all_held}}
 use Rattle.dsa_book.specs.{State.{Setup}, Work.{waits_for}}
 use Rattle.dsa_queues.specs.Queues.{IsStoreFor}
-use Rattle.dsa_engines.specs.Engines.{IsInPlace}
-use Rattle.dsa_engines.proofs.Waiting.{first-held, none-held}
+use Rattle.dsa_engines.specs.Engines.{IsInPlace, NamesRise}
+use Rattle.dsa_engines.proofs.Waiting.{first-held, none-held, find-within}
 
 -- the first of the list that the Drain waits for
 abbrev pub waited_in : Content → Entry → ℕ → Option HeldEntry
@@ -25,6 +25,20 @@ none-in drain l none = go (find (λ (pair : HeldEntry). waits_for drain pair.1) 
         let found = In-find (λ (pair : HeldEntry). waits_for drain pair.1) pair l is in
         let false_is_true : false ≡ true = sym (none pair found.0) ∙ found.1 in
         absurd cc
+
+-- past the first that is not older than the Drain none is waited for
+pub find-older : (drain : Entry) (l : List HeldEntry) → NamesRise l
+    → find (λ (pair : HeldEntry). waits_for drain pair.1)
+    (take_while (λ pair. nat_lt pair.1.name drain.name) l)
+    ≡ find (λ (pair : HeldEntry). waits_for drain pair.1) l
+find-older drain l rise =
+    find-within (λ pair. waits_for drain pair.1) (λ pair. nat_lt pair.1.name drain.name) l late
+    (λ i j d a b off. late (get_or l j d)
+    (le-ltb _ _ (omega (arith, rise i j d a b, ltb-false (get_or l i d).1.name drain.name off))))
+  where
+    late : (pair : HeldEntry) → nat_lt pair.1.name drain.name ≡ false
+        → waits_for drain pair.1 ≡ false
+    late pair off = grind (arith, common_steps, off)
 
 module _ (setup : Setup) {cells : ℕ} (content : Content) (drain : Entry) (store : IsStoreFor setup.caps cells content)
     (placed : IsInPlace setup content) where

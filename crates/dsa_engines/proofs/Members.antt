@@ -1,8 +1,8 @@
 -- What a start finds among the members, and leaves.
-use Rattle.std.proofs.Common.{◌≡◌, ℕ, zero, suc, ◌+◌, ◌<◌, ◌≤◌, Bool, true, false, not, cond, ◌&&◌, List, [], ◌∷◌}
-use Rattle.std.proofs.Common.{length, set, get_or, slice_get, Option, Some, None, ◌⊎◌, refl, sym, ◌∙◌, ap, subst, inl}
+use Rattle.std.proofs.Common.{◌≡◌, ◌==◌, ℕ, zero, suc, ◌+◌, ◌<◌, ◌≤◌, Bool, true, false, not, cond, ◌&&◌, List, [], ◌∷◌}
+use Rattle.std.proofs.Common.{length, drop, filter, set, get_or, slice_get, Option, Some, None, ◌⊎◌, refl, sym, ◌∙◌, ap, subst, inl}
 use Rattle.std.proofs.Common.{inr, arith}
-use Rattle.std.proofs.lemmas.{Grind.{common_steps}, Bool.{lt-ltb, not-true}}
+use Rattle.std.proofs.lemmas.{Grind.{common_steps}, Bool.{and_parts, eqb-true, lt-ltb, not-true}}
 use Rattle.std.proofs.lemmas.List.{get_or-set_same, get_or-set_other, length-set}
 use Rattle.std.specs.List.{find}
 use Rattle.dsa_base.{specs.Rows.{passes}, proofs.Lists.{In-find}}
@@ -10,14 +10,16 @@ use Rattle.dsa_desc.specs.Descriptor.{is_fenced}
 use Rattle.dsa_regs.specs.Buffers.{fits}
 use Rattle.dsa_store.specs.declared.entry.{Cell.{Cell}, Entry.{Entry}}
 use Rattle.dsa_store.specs.Content.{HeldEntry, Content, is_cell, chain, place_count, use_count, after_set, after_give_back}
+use Rattle.dsa_store.specs.{Content.{entry_of, list_of_cell}, Walk.{entries_from}}
 use Rattle.dsa_store.proofs.Places.{count-cons, count-at, is_cell-itself}
-use Rattle.dsa_store.proofs.{Lists.{count-le-uses}, Finding.{replaced-at}}
+use Rattle.dsa_store.proofs.{Lists.{count-le-uses}, Walks.{entries_from-at}}
+use Rattle.dsa_store.proofs.Finding.{replaced-at, placed, list_of-at, list_of-none, entry_of-at}
 use Rattle.dsa_book.specs.declared.{note.BatchNote.{BatchNote}, answer.StartAnswer.TheVariants.{Started, NoBuffers}}
 use Rattle.dsa_book.specs.declared.fate.FateRow.{FateRow}
 use Rattle.dsa_book.specs.State.{Setup, is_off, need_of, held_by}
 use Rattle.dsa_book.specs.Work.{member_list, members, with_first_run, with_running_entry, as_running, has_room, start}
 use Rattle.dsa_queues.{specs.Queues.{Kept, IsCounted}, proofs.Counts.{counted-replaced}}
-use Rattle.dsa_engines.specs.Engines.{EnginesState, work, lists_alone, Holds, IsInStep, WaitInOrder}
+use Rattle.dsa_engines.specs.Engines.{EnginesState, work, lists_alone, Holds, IsInStep, WaitInOrder, is_running}
 use Rattle.dsa_engines.proofs.{Homes.{home-of}, Keeping.{awake-found, in_step-moved}}
 use Rattle.dsa_engines.proofs.Used.{load, load-nil, load-cons, load-set, held-is, none-load, HoldsMore, gives-back}
 use Rattle.dsa_engines.proofs.Used.{taken-of, buffers-same, written-less}
@@ -43,6 +45,47 @@ first-found x l s h = go x.1.running refl h
         → ((x.1.running ≡ true) × (find waits l ≡ Some s)) ⊎ ((x.1.running ≡ false) × (x ≡ s))
     go true is found = inl (is, found)
     go false is found = inr (is, cc)
+
+-- where none of these runs, none at any place does
+waits-at : (l : List HeldEntry) (k : ℕ) (s : HeldEntry) → filter is_running l ≡ [] → k < length l → get_or l k s ≡ s
+    → s.1.running ≡ false
+waits-at [] k s none h at = absurd (omega (arith, h))
+waits-at (x ∷ l) zero s none h at = grind (arith, common_steps)
+waits-at (x ∷ l) (suc k) s none h at = grind (arith, common_steps, waits-at l k s)
+
+-- from one that runs on, the first that waits is the first of all
+found-after : (l : List HeldEntry) (k : ℕ) (s : HeldEntry) → WaitInOrder l → k < length l → get_or l k s ≡ s
+    → s.1.running ≡ true → find waits (drop k l) ≡ find waits l
+found-after [] k s order h at runs = absurd (omega (arith, h))
+found-after (x ∷ l) zero s order h at runs = refl
+found-after (x ∷ l) (suc k) s order h at runs =
+    go x.1.running refl (found-after l k s order.1 (omega (arith, h)) at runs)
+  where
+    go : (b : Bool) → x.1.running ≡ b → find waits (drop k l) ≡ find waits l
+        → find waits (drop k l) ≡ find waits (x ∷ l)
+    go true is later = later ∙ rw is refl
+    go false is later =
+        let no : true ≡ false = sym runs ∙ waits-at l k s (order.0 is) (omega (arith, h)) at in absurd cc
+
+-- and so from the cell of one that runs on
+pub found-from : (content : Content) (i : ℕ) (cell : Cell) → ((c : Cell) → use_count content c ≤ 1)
+    → (passes (λ at. at == i) (list_of_cell content cell) && passes (λ (entry : Entry). entry.running) (entry_of content cell)) ≡ true
+    → WaitInOrder (chain content i) → find waits (entries_from content (Some cell)) ≡ find waits (chain content i)
+found-from content i cell once runs order =
+    elim (placed content cell) [
+      | inl none ↦
+          let no : false ≡ true = rw (list_of-none content cell none) at runs in absurd cc
+      | inr s ↦
+          let both = and_parts (s.list == i) s.entry.running (rw (
+            list_of-at content s.list s.place cell s.entry (once cell) s.at,
+            entry_of-at content s.list s.place cell s.entry (once cell) s.at,
+          ) at runs) in
+          let here : s.list ≡ i = eqb-true s.list i both.0 in
+          let ordered : WaitInOrder (chain content s.list) = rw here order in
+          ap (find waits) (entries_from-at content s.list s.place cell s.entry (once cell) s.at)
+          ∙ found-after (chain content s.list) s.place (cell, s.entry) ordered s.at.within s.at.pair both.1
+          ∙ ap (λ n. find waits (chain content n)) here
+    ]
 
 -- its place in the list
 pub record WaitsIn (l : List HeldEntry) (s : HeldEntry) : Type 0 where
@@ -98,7 +141,7 @@ none-runs setup (x ∷ l) s once h here order =
           let one : ◌≡◌ {A = ℕ} (cond (is_cell s.0 x) 1 0) 1 = rw here refl in
           absurd (omega (arith, once, one, count-cons s.0 x l, found-counted l s later.1))
       | inr front ↦
-          omega (arith, load-cons setup x l, held-is setup x.1 front.0, none-load setup l (order front.0))
+          omega (arith, load-cons setup x l, held-is setup x.1 front.0, none-load setup l (order.0 front.0))
     ]
 
 -- ---- a start

@@ -1,8 +1,9 @@
 -- The first held entry that passes, list by list.
 use Rattle.std.proofs.Common.{◌≡◌, ℕ, zero, suc, ◌+◌, ◌<◌, Bool, true, false, List, [], ◌∷◌, length, Option, Some, None}
-use Rattle.std.proofs.Common.{refl, sym, ap, ◌∙◌, arith, inl, inr}
-use Rattle.std.proofs.lemmas.{Bool.{cases_lt}, List.Folds.{find-append}}
-use Rattle.std.specs.{Prelude.{is_some, find}, Option.{option_or}}
+use Rattle.std.proofs.Common.{refl, sym, ap, ◌∙◌, arith, inl, inr, cond, get_or}
+use Rattle.std.proofs.lemmas.Bool.{cases_Bool, cases_lt}
+use Rattle.std.proofs.lemmas.List.{Folds.{find-append}, Sums.{take_while-cons}}
+use Rattle.std.specs.{Prelude.{is_some, find}, Option.{option_or}, List.{AllPairs, take_while}}
 use Rattle.dsa_store.specs.Content.{HeldEntry, Content, chain, all_held}
 
 module _ (p : HeldEntry → Bool) where
@@ -44,4 +45,30 @@ pub none-next : (found : ℕ → Option HeldEntry) (n : ℕ) → ((j : ℕ) → 
 none-next found n before here j h = elim (cases_lt j n) [
   | inl less ↦ before j less
   | inr more ↦ let same : j ≡ n = omega (arith, h, more) in rw same (no-some (found n) here)
+]
+
+-- ---- a walk that ends early
+
+none-later : (p : HeldEntry → Bool) (l : List HeldEntry)
+    → ((k : ℕ) (d : HeldEntry) → k < length l → p (get_or l k d) ≡ false) → find p l ≡ None
+none-later p [] h = refl
+none-later p (x ∷ l) h =
+    rw (h 0 x (omega arith)) (none-later p l (λ k d i. h (suc k) d (omega (arith, i))))
+
+-- where none passes from the first on that ends the walk, the walk finds the first that passes
+pub find-within : (p within : HeldEntry → Bool) (l : List HeldEntry)
+    → ((x : HeldEntry) → within x ≡ false → p x ≡ false)
+    → AllPairs (λ x later. within x ≡ false → p later ≡ false) l
+    → find p (take_while within l) ≡ find p l
+find-within p within [] one pairs = refl
+find-within p within (x ∷ l) one pairs = elim (cases_Bool (within x)) [
+  | inl on ↦
+      let rest = find-within p within l one
+      (λ i j d a b. pairs (suc i) (suc j) d (omega (arith, a)) (omega (arith, b))) in
+      rw (take_while-cons within x l, on)
+      (ap (λ (o : Option HeldEntry). cond (p x) (Some x) o) rest)
+  | inr off ↦
+      let none =
+      none-later p l (λ k d h. pairs 0 (suc k) d (omega arith) (omega (arith, h)) off) in
+      rw (take_while-cons within x l, off, one x off, none) refl
 ]

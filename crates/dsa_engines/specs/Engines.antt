@@ -1,6 +1,7 @@
 -- What the engines keep beside the lists, and how it agrees with them.
 use Rattle.std.specs.Prelude.{◌≡◌, ℕ, ◌-◌, ◌<◌, ◌≤◌, true, false, Bool, not, ◌&&◌, is_some, cond, List, ◌∷◌, length}
 use Rattle.std.specs.Prelude.{map, filter, replicate, get_or, slice_index, slice_set, Option, Some, None, []}
+use Rattle.std.specs.List.{AllPairs}
 use Rattle.dsa_base.specs.{Rows.{passes}, Numbers.{numbers_below}, Lists.{In}}
 use Rattle.dsa_regs.specs.declared.{Caps.{Caps}, layout.ListUse.{ListUse, TheVariants.{Queue, Progress, Members}}}
 use Rattle.dsa_regs.specs.{Caps.{engine_of_list}, Config.{check_device}}
@@ -120,10 +121,18 @@ pub record IsOpen (setup : Setup) (content : Content) (e g : ℕ) : Type 0 where
   pub home : group_in setup.groups e ≡ Some g
   pub pair : length (chain content (progress_list setup e)) < setup.caps.slots
 
--- where the first of them waits, none runs
+-- after one that waits, none runs
 abbrev pub WaitInOrder : List HeldEntry → Type 0
 WaitInOrder [] = Unit {0}
-WaitInOrder (pair ∷ rest) = pair.1.running ≡ false → filter is_running rest ≡ []
+WaitInOrder (pair ∷ rest) = (pair.1.running ≡ false → filter is_running rest ≡ []) × WaitInOrder rest
+
+-- names rise from the front on
+abbrev pub NamesRise : List HeldEntry → Type 0
+NamesRise = AllPairs (λ earlier later. earlier.1.name < later.1.name)
+
+-- in each queue (profile)
+abbrev pub QueuesRise : Setup → Content → Type 0
+QueuesRise setup content = (q : ℕ) → q < setup.caps.queues → NamesRise (chain content q)
 
 -- the engine works on a batch with members that are still to be fetched
 abbrev pub is_fetching : Work → ℕ → Bool

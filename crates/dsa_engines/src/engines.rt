@@ -15,16 +15,19 @@ use dsa_book::BatchNote;
 use dsa_buffers::{BufferWant, ReadBuffers};
 use dsa_queues::Queues;
 use dsa_regs::{Caps, MAX_ENGINES, MAX_GROUPS};
+use dsa_store::Cell;
 use std::marker::Model;
 
 /// The engines of a device: the note of each engine that works on a batch, the read buffers of the
-/// groups, the group of each engine, and the queue whose turn is next in each group.
+/// groups, the group of each engine, the queue whose turn is next in each group, and the cell of the
+/// member that each engine started last.
 #[derive(Drop)]
 pub struct Engines {
     notes: ArrayVec<Option<BatchNote>, MAX_ENGINES>,
     buffers: ReadBuffers,
     homes: ArrayVec<Option<u16>, MAX_ENGINES>,
     turns: [u16; MAX_GROUPS],
+    started: [Cell; MAX_ENGINES],
 }
 
 impl Model for Engines {
@@ -78,6 +81,7 @@ impl Engines {
             buffers: ReadBuffers::new(0, &[]),
             homes: ArrayVec::new(),
             turns: [0; MAX_GROUPS],
+            started: [Cell(0); MAX_ENGINES],
         }
     }
 
@@ -210,6 +214,21 @@ impl Engines {
     {
         if let Some(turn) = self.turns.get_mut(usize::from(group)) {
             *turn = queue;
+        }
+    }
+
+    /// The cell of the member that the engine started last. That member may have left it.
+    #[inline(always)]
+    pub(crate) fn last_started(&self, engine: u16) -> Option<Cell> {
+        self.started.get(usize::from(engine)).copied()
+    }
+
+    #[inline(always)]
+    pub(crate) fn set_last_started(&mut self, engine: u16, cell: Cell)
+        ensures { self.new ≡ self.old }
+    {
+        if let Some(started) = self.started.get_mut(usize::from(engine)) {
+            *started = cell;
         }
     }
 }

@@ -8,7 +8,7 @@ ghost use Rattle.dsa_store.specs.Content.{Content, chain};
 ghost use Rattle.dsa_book.specs.State.{is_batch_of, is_ticket};
 ghost use Rattle.dsa_book.specs.Work.{running_on, waits_for, must_wait, last_status, note_after, with_note, finish};
 ghost use Rattle.dsa_queues.specs.Queues.{IsCounted, IsStoreFor};
-ghost use Rattle.dsa_engines.specs.Engines.{EnginesState, work, lists_alone, IsInStep, IsInPlace};
+ghost use Rattle.dsa_engines.specs.Engines.{EnginesState, work, lists_alone, IsInStep, IsInPlace, NamesRise, QueuesRise};
 ghost use Rattle.dsa_engines.specs.Finish.{batch_table, finish_reason, first_waited, gone_table, wait_table};
 
 use crate::Engines;
@@ -96,16 +96,30 @@ fn first_in<S: EntryStore>(store: &S, list: ListId, drain: &Entry) -> Option<(Ce
     held_entries(store, list).find(|pair| waits_for(drain, &pair.1))
 }
 
+// The same of a list along which names rise: it is walked only as far as its names are lower than
+// the Drain's, which in the Drain's own queue none is.
+fn first_older<S: EntryStore>(store: &S, list: ListId, drain: &Entry) -> Option<(Cell, Entry)>
+    requires list { list.0 < length (S.content store.now) }
+    requires order { NamesRise (chain (S.content store.now) list.0) }
+    ensures { result
+        ≡ find (λ pair. waits_for drain.now pair.1) (chain (S.content store.now) list.0) }
+{
+    held_entries(store, list)
+        .take_while(|pair| pair.1.name < drain.name)
+        .find(|pair| waits_for(drain, &pair.1))
+}
+
 // The first held entry that the Drain waits for, by the lists in their order. It stands in the
 // Drain's queue or is in progress on an engine, so no other list is looked at.
 fn first_waited<S: EntryStore>(queues: &Queues, store: &S, drain: &Entry) -> Option<(Cell, Entry)>
     requires store { IsStoreFor queues.now.setup.caps (S.cells store.now) (S.content store.now) }
     requires placed { IsInPlace queues.now.setup (S.content store.now) }
+    requires order { QueuesRise queues.now.setup (S.content store.now) }
     ensures { result
         ≡ first_waited (lists_alone queues.now.setup (S.content store.now)) drain.now }
 {
     if queues.has_queue(drain.queue) {
-        let queued = first_in(store, ListId(drain.queue), drain);
+        let queued = first_older(store, ListId(drain.queue), drain);
         if queued.is_some() {
             return queued;
         }
@@ -164,6 +178,7 @@ impl Engines {
         requires store { IsStoreFor queues.now.setup.caps (S.cells store.now)
             (S.content store.now) }
         requires placed { IsInPlace queues.now.setup (S.content store.now) }
+        requires order { QueuesRise queues.now.setup (S.content store.now) }
         requires engine { engine < queues.now.setup.caps.engines }
         ensures { result
             ≡ first_row
@@ -195,6 +210,7 @@ impl Engines {
         requires store { IsStoreFor queues.now.setup.caps (S.cells store.now)
             (S.content store.now) }
         requires placed { IsInPlace queues.now.setup (S.content store.now) }
+        requires order { QueuesRise queues.now.setup (S.content store.now) }
         ensures reason { result_err result
             ≡ finish_reason (work queues.now.setup self.now (S.content store.now) []) engine
             ticket }
@@ -228,6 +244,7 @@ impl Engines {
         requires store { IsStoreFor queues.now.setup.caps (S.cells store.now)
             (S.content store.now) }
         requires placed { IsInPlace queues.now.setup (S.content store.now) }
+        requires order { QueuesRise queues.now.setup (S.content store.now) }
         ensures { result
             ≡ finish_reason (work queues.now.setup self.now (S.content store.now) []) engine
             ticket }
@@ -304,7 +321,7 @@ impl Engines {
     /// with the status. The entry leaves and gives its read buffers back, and the book gets a row.
     /// A member that was not successful marks its batch as failed; a batch that is so marked ends
     /// with 0x05, and its note goes. Touches the cell of the ticket alone; the end of a Drain looks
-    /// at what stands in its queue and at what is in progress on each engine.
+    /// at the front of its queue and at what is in progress on each engine.
     #[inline(always)]
     pub fn finish<S: EntryStore>(
         &mut self,
@@ -319,6 +336,7 @@ impl Engines {
             (S.content store.old) }
         requires counted { IsCounted queues.old (S.content store.old) }
         requires placed { IsInPlace queues.old.setup (S.content store.old) }
+        requires order { QueuesRise queues.old.setup (S.content store.old) }
         requires room { length book.old.fates < book.old.capacity }
         ensures step { finish (work queues.old.setup self.old (S.content store.old) book.old.fates)
             engine ticket outcome

@@ -1,11 +1,11 @@
 //! Start: an engine starts the first of its members that does not run.
 
-ghost use Rattle.std.specs.Prelude.{◌≡◌, ℕ, ◌<◌, ◌≤◌, ◌+◌, ◌&&◌, ◌++◌, List, not, true, false, Some, None, map, length, find, get_or, slice_get, slice_set, option_map, IfErr, IfOk, MatchResult};
+ghost use Rattle.std.specs.Prelude.{◌≡◌, ℕ, ◌<◌, ◌≤◌, ◌+◌, ◌&&◌, ◌==◌, ◌++◌, List, not, true, false, Some, None, is_some, map, length, find, get_or, slice_get, slice_set, option_map, IfErr, IfOk, MatchResult};
 ghost use Rattle.std.specs.Result.{result_err};
 ghost use Rattle.dsa_base.specs.Rows.{passes};
 ghost use Rattle.dsa_desc.specs.Descriptor.{is_fenced};
 ghost use Rattle.dsa_regs.specs.Buffers.{fits};
-ghost use Rattle.dsa_store.specs.Content.{Content, after_give_back, chain, is_cell};
+ghost use Rattle.dsa_store.specs.Content.{Content, after_give_back, chain, entry_of, is_cell, list_of_cell};
 ghost use Rattle.dsa_book.specs.declared.note.BatchNote.{BatchNote};
 ghost use Rattle.dsa_book.specs.declared.fate.Fate.TheVariants.{Abandoned};
 ghost use Rattle.dsa_book.specs.declared.fate.FateRow.{FateRow};
@@ -21,14 +21,42 @@ use crate::reasons::StartReason;
 use dsa_book::{BatchNote, Book, Fate, FateRow, StartAnswer, Ticket};
 use dsa_queues::Queues;
 use dsa_regs::ListUse;
-use dsa_store::{Cell, Entry, EntryStore, ListId, front_entry, held_entries};
+use dsa_store::{Cell, Entry, EntryStore, ListId, entries_from, front_entry, held_entries};
 
-// The first entry of the list that does not run. Looks at those before it.
-fn first_waiting<S: EntryStore>(store: &S, list: ListId) -> Option<(Cell, Entry)>
-    requires { list.0 < length (S.content store.now) }
+// Whether a running entry of the list is in the cell.
+#[inline(always)]
+fn is_running_in<S: EntryStore>(store: &S, list: ListId, cell: Cell) -> bool
+    ensures { result
+        ≡ (passes (λ at. at == list.0) (list_of_cell (S.content store.now) cell)
+        && passes (λ (entry : Entry). entry.running) (entry_of (S.content store.now) cell)) }
+{
+    let Some(at) = store.list_of(cell) else {
+        return false;
+    };
+    let Some(entry) = store.get(cell) else {
+        return false;
+    };
+    at.0 == list.0 && entry.running
+}
+
+// The first entry of the list that does not run. Looks at those before it, but where a running entry
+// is in the given cell, only at that one and those after it.
+#[inline(always)]
+fn first_waiting<S: EntryStore>(
+    store: &S,
+    list: ListId,
+    started: Option<Cell>,
+) -> Option<(Cell, Entry)>
+    requires list { list.0 < length (S.content store.now) }
+    requires order { is_some started ≡ true → WaitInOrder (chain (S.content store.now) list.0) }
     ensures { result ≡ find (λ pair. not pair.1.running) (chain (S.content store.now) list.0) }
 {
-    held_entries(store, list).find(|pair| !pair.1.running)
+    match started {
+        Some(cell) if is_running_in(store, list, cell) => {
+            entries_from(store, cell).find(|pair| !pair.1.running)
+        }
+        _ => held_entries(store, list).find(|pair| !pair.1.running),
+    }
 }
 
 // Whether the entry is fenced and other members are ahead of it.
@@ -162,16 +190,20 @@ impl Engines {
     }
 
     // The first member that does not run and the engine's group, where the member is to be started;
-    // else what keeps it from starting, the first cause that stands.
+    // else what keeps it from starting, the first cause that stands. The given cell may have the
+    // member that was started last.
     #[inline(always)]
     fn member_to_start<S: EntryStore>(
         &self,
         queues: &Queues,
         store: &S,
         engine: u16,
+        started: Option<Cell>,
     ) -> Result<Startable, StartBlock>
         requires in_step { IsInStep queues.now.setup self.now (S.cells store.now)
             (S.content store.now) }
+        requires order { is_some started ≡ true
+            → WaitInOrder (members (lists_alone queues.now.setup (S.content store.now)) engine) }
         ensures reason { (fates : List FateRow)
             → option_map (told_as
             (work queues.now.setup self.now (S.content store.now) fates) self.now.buffers engine)
@@ -189,7 +221,7 @@ impl Engines {
             return Err(StartBlock::Nothing);
         }
         let list = queues.list(ListUse::Members(engine));
-        let Some((cell, entry)) = first_waiting(store, list) else {
+        let Some((cell, entry)) = first_waiting(store, list, started) else {
             return Err(StartBlock::Nothing);
         };
         let member = entry.name;
@@ -269,7 +301,7 @@ impl Engines {
             ≡ start_reason (work queues.now.setup self.now (S.content store.now) book.now.fates)
             engine }
     {
-        let block = self.member_to_start(queues, store, engine).err()?;
+        let block = self.member_to_start(queues, store, engine, None).err()?;
         Some(self.told(queues, store, book, engine, block))
     }
 
@@ -340,8 +372,9 @@ impl Engines {
     /// `Nothing` where no member waits. A fenced member waits for all members before it
     /// (`FenceWait`), and if one of them was not successful all members that are left end as
     /// `Abandoned`, and the batch is closed. `NoBuffers` where the read buffers that the member
-    /// needs do not fit the group. Else it is `Started`, and takes them. Looks at the members up to
-    /// the first that waits, and at all of them where they are abandoned.
+    /// needs do not fit the group. Else it is `Started`, and takes them. Looks at the member that was
+    /// started last and the next one. If the former has ended it looks at the members up to the first
+    /// that waits, and at all of them where they are abandoned.
     pub fn start<S: EntryStore>(
         &mut self,
         queues: &mut Queues,
@@ -365,7 +398,8 @@ impl Engines {
             (S.content store.new) }
         ensures counted { IsCounted queues.new (S.content store.new) }
     {
-        let member = match self.member_to_start(queues, store, engine) {
+        let started = self.last_started(engine);
+        let member = match self.member_to_start(queues, store, engine, started) {
             Ok(member) => member,
             Err(StartBlock::Nothing) => return StartAnswer::Nothing,
             Err(StartBlock::Fence { .. }) => return StartAnswer::FenceWait,
@@ -390,6 +424,7 @@ impl Engines {
             },
         );
         self.take(group, need);
+        self.set_last_started(engine, cell);
         StartAnswer::Started(Ticket { cell, name })
     }
 }

@@ -55,17 +55,10 @@ pub fn commands()
         ∷ codes "reset-device"
         ∷ [] }
     ensures queue { command_with_operand (EnableWq 63) ≡ codes "enable-wq 63" }
-    ensures masks { map command_with_operand
-        (DisableWq (mask 0 3)
-        ∷ DrainWq (mask 0 0xa1)
-        ∷ AbortWq (mask 1 5)
-        ∷ ResetWq (mask 3 0x8000)
-        ∷ [])
-        ≡ codes "disable-wq 0x3"
-        ∷ codes "drain-wq 0xa1"
-        ∷ codes "abort-wq 0x10005"
-        ∷ codes "reset-wq 0x38000"
-        ∷ [] }
+    ensures masks { map command_with_operand (DisableWq (mask 0 3) ∷ DrainWq (mask 0 0xa1) ∷ [])
+        ≡ codes "disable-wq 0x3" ∷ codes "drain-wq 0xa1" ∷ [] }
+    ensures far_masks { map command_with_operand (AbortWq (mask 1 5) ∷ ResetWq (mask 3 0x8000) ∷ [])
+        ≡ codes "abort-wq 0x10005" ∷ codes "reset-wq 0x38000" ∷ [] }
     ensures pasid { map command_with_operand (DrainPasid 5 ∷ AbortPasid 1048575 ∷ [])
         ≡ codes "drain-pasid 5" ∷ codes "abort-pasid 1048575" ∷ [] }
 {}

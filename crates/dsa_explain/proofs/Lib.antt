@@ -1,3 +1,4 @@
 pub mod Holding
 pub mod FailedMembers
 pub mod Active
+pub mod Late

@@ -1,13 +1,15 @@
 -- What a drain or a disable waits for.
 use Rattle.dsa_book.specs.declared.answer.IssueAnswer.TheVariants as issued
-use Rattle.dsa_explain.specs.declared.awaiting.Waiter.TheVariants as waiter
-use Rattle.std.specs.Prelude.{Bool, true, false, cond, Option, Some, None, option_map}
+use Rattle.std.specs.Prelude.{Bool, true, false, not, cond, ◌&&◌, nat_le, Option, Some, None}
+use Rattle.std.specs.Option.{option_map}
 use Rattle.dsa_regs.specs.declared.{Command.{Command}, Deed.{Deed, TheVariants.{Disable, Drain}}}
-use Rattle.dsa_store.specs.Content.{count_where}
+use Rattle.dsa_regs.specs.Command.{deed_of, scope_of}
+use Rattle.dsa_regs.specs.declared.layout.ListUse.{ListUse, TheVariants.{Queue}}
+use Rattle.dsa_store.specs.{declared.entry.Entry.{Entry}, Content.{count_where}}
 use Rattle.dsa_book.specs.declared.{answer.IssueAnswer.{IssueAnswer}, note.ActiveCommand.{ActiveCommand}}
 use Rattle.dsa_book.specs.{State.{State}, Commands.{issue}}
-use Rattle.dsa_admin.specs.Admin.{is_awaited_by}
-use Rattle.dsa_explain.specs.declared.awaiting.{WaitReason.{WaitReason}, Waiter.{Waiter}}
+use Rattle.dsa_admin.specs.Admin.{is_awaited_by, is_counting, is_waited_for, names_queues}
+use Rattle.dsa_explain.specs.declared.awaiting.WaitReason.{WaitReason}
 use Rattle.dsa_explain.specs.Held.{first_awaited}
 
 -- what keeps a command that is noted so from its end: how many held entries it waits for, and the first
@@ -20,10 +22,13 @@ wait_by noted s = option_map
 abbrev pub wait_of_active : State → Option WaitReason
 wait_of_active s = wait_by s.active s
 
--- who waits: the active command, if there is one, or one that is noted so
-abbrev pub noted_by : Option ActiveCommand → Waiter → Option ActiveCommand
-noted_by active waiter.Active = active
-noted_by active (waiter.Noted noted) = Some noted
+-- neither this entry of a queue is waited for nor any after it: of a scope of queues, where this one
+-- is not, and else where it is past the mark of a drain
+abbrev pub is_late : ActiveCommand → ListUse → Entry → Bool
+is_late noted (Queue q) entry = cond (names_queues (scope_of noted.command))
+    (not (is_waited_for noted entry))
+    (is_counting (deed_of noted.command) && nat_le noted.mark entry.name)
+is_late noted list entry = false
 
 -- the command as it is noted where it is answered active: a drain waits for names that were given before
 abbrev pub noted_as : State → Command → ActiveCommand

@@ -7,15 +7,15 @@ ghost use Rattle.dsa_store.specs.Content.{chain};
 ghost use Rattle.dsa_book.specs.declared.note.ActiveCommand.{ActiveCommand};
 ghost use Rattle.dsa_book.specs.State.{State};
 ghost use Rattle.dsa_book.specs.Commands.{is_at_end, issue};
-ghost use Rattle.dsa_admin.specs.Admin.{is_awaited_by};
+ghost use Rattle.dsa_admin.specs.Admin.{is_waited_for};
 ghost use Rattle.dsa_explain.specs.Held.{awaited_entry, first_awaited, held_in_list};
-ghost use Rattle.dsa_explain.specs.Wait.{is_active_answer, is_waiting, noted_by, wait_of_active, wait_reason};
+ghost use Rattle.dsa_explain.specs.Wait.{is_active_answer, is_late, is_waiting, wait_of_active, wait_reason};
 
 use crate::held::{ListedEntry, entries_of_list};
 use dsa_admin::{commands_follow_reasons, is_waited_for};
 use dsa_book::ActiveCommand;
 use dsa_device::Device;
-use dsa_regs::{Command, Deed, ListUse, list_count};
+use dsa_regs::{Command, Deed, ListUse, Scope, list_count};
 use dsa_store::{Entry, EntryStore};
 
 /// What keeps a drain or a disable from its end: so many held entries, the first of them list by
@@ -26,49 +26,48 @@ pub struct WaitReason {
     pub first: ListedEntry,
 }
 
-// Who waits: the active command, or one that would be noted so.
-#[derive(Clone, Copy)]
-enum Waiter {
-    Active,
-    Noted(ActiveCommand),
-}
-
-// Whether the entry is waited for.
-fn is_awaited<S: EntryStore>(device: &Device<S>, waiter: &Waiter, entry: &Entry) -> bool
-    ensures { result ≡ is_awaited_by (noted_by device.now.state.active waiter.now) entry.now }
+// Whether the command waits neither for this entry of a queue nor for any after it. Names rise
+// along a queue, and a scope of queues has all entries of a queue or none, so the front decides. By
+// PASID the first that is waited for may stand after others, so all before the mark are looked at.
+fn is_late(noted: &ActiveCommand, list: ListUse, entry: &Entry) -> bool
+    ensures { result ≡ is_late noted.now list entry.now }
 {
-    match waiter {
-        Waiter::Active => device.awaits(entry),
-        Waiter::Noted(noted) => is_waited_for(noted, entry),
+    let ListUse::Queue(_) = list else {
+        return false;
+    };
+    match noted.command.scope() {
+        Scope::Pasid(_) => noted.command.deed() != Deed::Disable && entry.name >= noted.mark,
+        _ => !is_waited_for(noted, entry),
     }
 }
 
 // The first entry of the list that is waited for.
 fn first_in<S: EntryStore>(
     device: &Device<S>,
-    waiter: &Waiter,
+    noted: &ActiveCommand,
     list: ListUse,
 ) -> Option<ListedEntry>
     requires { HasList device.now.caps list }
     ensures { result
-        ≡ find (λ held. is_awaited_by (noted_by device.now.state.active waiter.now) held.entry)
+        ≡ find (λ held. is_waited_for noted.now held.entry)
         (map (held_in_list list)
         (chain device.now.state.work.content (list_number device.now.caps list))) }
 {
-    let mut entries = entries_of_list(device, list);
-    let (cell, entry) = entries.find(|pair| is_awaited(device, waiter, &pair.1))?;
+    device.state_is_replay();
+    let (cell, entry) = entries_of_list(device, list)
+        .take_while(|pair| !is_late(noted, list, &pair.1))
+        .find(|pair| is_waited_for(noted, &pair.1))?;
     Some(ListedEntry { list, cell, entry })
 }
 
 // The first held entry that is waited for.
-fn first_awaited<S: EntryStore>(device: &Device<S>, waiter: &Waiter) -> Option<ListedEntry>
-    ensures { result
-        ≡ first_awaited (noted_by device.now.state.active waiter.now) device.now.state }
+fn first_awaited<S: EntryStore>(device: &Device<S>, noted: &ActiveCommand) -> Option<ListedEntry>
+    ensures { result ≡ first_awaited (Some noted.now) device.now.state }
 {
     device.state_is_replay();
     let caps = device.caps();
     for number in 0..list_count(&caps) {
-        let held = first_in(device, waiter, caps.list_use(number));
+        let held = first_in(device, noted, caps.list_use(number));
         if held.is_some() {
             return held;
         }
@@ -81,7 +80,7 @@ fn first_awaited<S: EntryStore>(device: &Device<S>, waiter: &Waiter) -> Option<L
 pub fn awaited_entry<S: EntryStore>(device: &Device<S>) -> Option<ListedEntry>
     ensures { result ≡ awaited_entry device.now.state }
 {
-    first_awaited(device, &Waiter::Active)
+    first_awaited(device, &device.active_command()?)
 }
 
 // Whether the deed waits for what is held.
@@ -108,7 +107,7 @@ pub fn wait_reason<S: EntryStore>(device: &Device<S>, command: Command) -> Optio
         command,
         mark: device.next_name(),
     };
-    let first = first_awaited(device, &Waiter::Noted(noted))?;
+    let first = first_awaited(device, &noted)?;
     let awaited = device.count_waited(&noted);
     Some(WaitReason { awaited, first })
 }

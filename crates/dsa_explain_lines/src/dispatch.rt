@@ -1,12 +1,10 @@
 //! Idle engines.
 
-ghost use Rattle.std.specs.Prelude.{◌≡◌, ◌<◌, cond, codes, flat_map, is_some};
-ghost use Rattle.std.specs.List.{list_any};
+ghost use Rattle.std.specs.{Prelude.{◌≡◌, ◌<◌, cond, codes, flat_map, is_some}, List.{list_any}};
 ghost use Rattle.dsa_base.specs.Numbers.{numbers_below};
 ghost use Rattle.dsa_event_text.specs.Added.{Adds};
 ghost use Rattle.dsa_book.specs.Work.{front_of};
-ghost use Rattle.dsa_engines.specs.Batch.{name_of_entry};
-ghost use Rattle.dsa_engines.specs.Dispatch.{queue_reason};
+ghost use Rattle.dsa_engines.specs.{Batch.{name_of_entry}, Dispatch.{queue_reason}};
 ghost use Rattle.dsa_explain_lines.specs.Parts.{dispatch_part, joint, queue_part};
 ghost use Rattle.dsa_explain_lines.specs.Sentences.{engine_sentence, front_words, queue_sentence};
 

@@ -2,12 +2,10 @@
 
 ghost use Rattle.dsa_event_text.specs.Added.{Adds};
 ghost use Rattle.dsa_book.specs.Machine.{intake_of};
-ghost use Rattle.dsa_queues.specs.Submission.{submit_reason};
+ghost use Rattle.dsa_queues.specs.{Submission.{submit_reason}, Write.{clear_reason, write_group_reason, write_queue_reason}};
 ghost use Rattle.dsa_admin.specs.Command.{poll_reason};
-ghost use Rattle.dsa_engines.specs.Batch.{fetch_reason};
-ghost use Rattle.dsa_engines.specs.Finish.{finish_reason};
+ghost use Rattle.dsa_engines.specs.{Batch.{fetch_reason}, Finish.{finish_reason}};
 ghost use Rattle.dsa_explain.specs.Held.{awaited_entry};
-ghost use Rattle.dsa_queues.specs.Write.{clear_reason, write_group_reason, write_queue_reason};
 ghost use Rattle.dsa_explain_lines.specs.Sentences.{clear_sentence, fetch_sentence, finish_sentence, poll_sentence, submit_sentence, write_sentence};
 ghost use Rattle.dsa_explain_lines.specs.Parts.{event_part, issue_part, part_of, start_part, told_of};
 

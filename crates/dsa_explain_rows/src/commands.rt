@@ -18,8 +18,9 @@ ghost use Rattle.dsa_admin.specs.declared.reasons.IssueReason.TheVariants.{Busy,
 ghost use Rattle.dsa_admin.specs.declared.reasons.PollReason.TheVariants.{Nothing, Waits};
 ghost use Rattle.dsa_regs.specs.declared.reasons.CheckReason.TheVariants as check;
 ghost use Rattle.dsa_regs.specs.declared.reasons.Named.TheVariants as named;
+ghost use Rattle.dsa_admin.specs.Worked.{by_name, disable_of_queue, drain_of_pasid, drain_of_queue};
 ghost use Rattle.dsa_admin.specs.Command.{fault_of_command, issue_by, issue_reason, poll_answer_by, poll_reason};
-ghost use Rattle.dsa_explain.specs.Wait.{is_waiting};
+ghost use Rattle.dsa_explain.specs.Wait.{is_late, is_waiting};
 ghost use Rattle.dsa_explain.specs.Held.{abort_row, aborted_entries, losses};
 ghost use Rattle.dsa_explain_rows.specs.After.{told_after, told_from_first};
 ghost use Rattle.dsa_explain_rows.specs.Waits.{active_after, held_as, wait_after, awaited_after, lost_after};
@@ -190,6 +191,19 @@ pub fn deeds_that_wait()
     ensures { map is_waiting
         (deed.Enable ∷ deed.Disable ∷ deed.Drain ∷ deed.Abort ∷ deed.Reset ∷ [])
         ≡ false ∷ true ∷ true ∷ false ∷ false ∷ [] }
+{}
+
+/// A queue is searched no further by queues where the front is not waited for, and by a PASID from
+/// the mark on; each other list is searched to its end.
+pub fn ends_of_searches()
+    ensures queue { map (is_late (drain_of_queue 3) (Queue 0)) by_name
+        ≡ false ∷ false ∷ true ∷ true ∷ true ∷ [] }
+    ensures disable { map (is_late (disable_of_queue 3) (Queue 0)) by_name
+        ≡ false ∷ false ∷ true ∷ false ∷ false ∷ [] }
+    ensures pasid { map (is_late (drain_of_pasid 3) (Queue 0)) by_name
+        ≡ false ∷ false ∷ false ∷ true ∷ true ∷ [] }
+    ensures progress { map (is_late (drain_of_queue 3) (Progress 0)) by_name
+        ≡ false ∷ false ∷ false ∷ false ∷ false ∷ [] }
 {}
 
 /// What a command waits for: what was submitted before it, and a disable for members too; nothing

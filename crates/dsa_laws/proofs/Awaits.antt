@@ -81,7 +81,7 @@ awaited-earlier Reset scope mark other = drained scope mark
 
 -- ---- the entry in a cell
 
-In-at : (xs : List HeldEntry) (k : ℕ) (d : HeldEntry) → k < length xs → In (get_or xs k d) xs
+pub In-at : (xs : List HeldEntry) (k : ℕ) (d : HeldEntry) → k < length xs → In (get_or xs k d) xs
 In-at [] k d h = absurd (omega arith)
 In-at (x ∷ xs) zero d h = inl refl
 In-at (x ∷ xs) (suc k) d h = inr (In-at xs k d (omega arith))

@@ -184,15 +184,11 @@ start_of-tells s e (Some pair) n =
     (λ u v. makes (is_abandoned
     (record { engine = e; pair = pair; is_first = n; first_of_all = u; failed = v; after = refl })) refl refl)
     (λ u v t. stays refl)
-    (λ u v t. makes (is_started (record {
-      engine = e;
-      pair = pair;
-      is_first = n;
-      first_of_all = u;
-      unfailed = v;
-      room = not-false _ t;
-      after = refl;
-    })) refl refl)
+    (λ u v t.
+    let room = not-false _ t in
+    makes (is_started
+    (record { engine = e; pair = pair; is_first = n; first_of_all = u; unfailed = v; room = room; after = refl }))
+    refl refl)
 
 -- ---- finish
 

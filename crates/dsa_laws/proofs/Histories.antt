@@ -10,6 +10,7 @@ use Rattle.dsa_laws.{specs.{WellFormed.{IsWellFormed}, Change.{Change}}, proofs.
 use Rattle.dsa_laws.proofs.{Engines.{engines-opening, engines-change}, Setups.{setup-opening, setup-change}}
 use Rattle.dsa_laws.proofs.{Orders.{of-lists_in_order, order-change, order-opening}, Flows.{cells-flow, flow-change}}
 use Rattle.dsa_laws.proofs.{Flows.{names-flow}, Entries.{entries-opening, entries-change}, Changes.{next-change}}
+use Rattle.dsa_laws.proofs.Rising.{rising-change, rising-opening}
 use Rattle.dsa_laws.proofs.{Buffering.{buffers-change, buffers-opening}, Notes.{notes-change, notes-opening}}
 use Rattle.dsa_laws.proofs.{Limits.{lists_fit-change, of-lists_fit, lists_fit-opening}, Contents.{all_held-empty}}
 
@@ -26,6 +27,7 @@ well_formed-change caps s s' w c =
       names = names-flow caps s.work s'.work w.names flow;
       setup = setup-change caps s s' w c;
       entries = entries-change caps s s' w c;
+      rising = rising-change caps s s' w c;
       limits = of-lists_fit caps s'.work shape lists notes engines;
       buffers = buffers-change caps s s' w c;
       engines = engines;
@@ -48,6 +50,7 @@ well_formed-opening caps =
       };
       setup = setup-opening caps;
       entries = entries-opening caps;
+      rising = rising-opening caps;
       limits = of-lists_fit caps (opening caps).work (shape-opening caps) (lists_fit-opening caps)
           (notes-opening caps) (engines-opening caps);
       buffers = buffers-opening caps;

@@ -9,7 +9,7 @@ use Rattle.dsa_laws.specs.{Change.{Change}, WellFormed.{HasShape, MembersInOrder
 use Rattle.dsa_laws.proofs.{Effects.{by_effect}, Contents.{each-place, chain-filtered, chain-empty}}
 use Rattle.dsa_laws.proofs.Shapes.{queues-same, engines-same, on-queue, a_taker, waiting-engine, members-at}
 
-none-first : (xs : List HeldEntry) → none_runs xs ≡ true → runs_first xs ≡ true
+pub none-first : (xs : List HeldEntry) → none_runs xs ≡ true → runs_first xs ≡ true
 none-first [] h = refl
 none-first (x ∷ xs) h = grind arith
 

@@ -1,10 +1,11 @@
 -- What holds in every state that a history leads to, from the lists themselves to the batches that engines work on.
 use Rattle.std.specs.Prelude.{◌≡◌, ℕ, ◌+◌, ◌^◌, ◌<◌, ◌≤◌, ◌==◌, ◌&&◌, Bool, true, false, cond, not, List, [], ◌∷◌}
-use Rattle.std.specs.Prelude.{length, count_by, Option, Some, None, is_some, ⊤}
+use Rattle.std.specs.{Prelude.{length, count_by, Option, Some, None, is_some, ⊤}, List.{AllPairs}}
 use Rattle.dsa_desc.specs.Descriptor.{pasid_of}
 use Rattle.dsa_regs.specs.declared.Caps.{Caps}
 use Rattle.dsa_regs.specs.{Caps.{cell_count, first_members, list_count}, Config.{queue_at, check_device, check_queue}}
-use Rattle.dsa_store.specs.{declared.entry.Cell.{Cell}, Content.{HeldEntry, use_count, held_count, all_held}}
+use Rattle.dsa_store.specs.declared.entry.Cell.{Cell}
+use Rattle.dsa_store.specs.Content.{HeldEntry, chain, use_count, held_count, all_held}
 use Rattle.dsa_book.specs.{Work.{in_progress, members, note_at}, declared.note.BatchNote.{BatchNote}}
 use Rattle.dsa_book.specs.State.{Setup, Work, State, phase_at, is_on, is_off, occupancy}
 use Rattle.dsa_laws.specs.{Lists.{EachAt}, Buffering.{HasBuffers}, Engines.{HasLawfulEngines}}
@@ -78,6 +79,16 @@ pub record HasLawfulEntries (caps : Caps) (w : Work) : Type 0 where
   pub none_off : NoneOff w
   pub pasids : PasidsFit w
 
+-- ---- the queues
+
+-- the earlier has the lower name
+abbrev pub IsOlder : HeldEntry → HeldEntry → Type 0
+IsOlder earlier later = earlier.1.name < later.1.name
+
+-- entries stand in their queue in the order in which they were accepted (profile)
+abbrev pub QueuesInOrder : Caps → Work → Type 0
+QueuesInOrder caps w = (queue : ℕ) → queue < caps.queues → AllPairs IsOlder (chain w.content queue)
+
 -- ---- the limits
 
 -- no queue holds more than its size, and no engine more in progress than it has slots, or more
@@ -128,7 +139,8 @@ pub record IsWellFormed (caps : Caps) (s : State) : Type 0 where
   -- the device and its queues; each entry by its list
   pub setup : HasLawfulSetup s.work.setup
   pub entries : HasLawfulEntries caps s.work
-  -- occupancy, entries, members, and read buffers
+  -- each queue in order; occupancy, entries, members, and read buffers
+  pub rising : QueuesInOrder caps s.work
   pub limits : IsWithinLimits caps s.work
   pub buffers : HasBuffers caps s.work
   -- the batch of each engine, its note, and its members in their order

@@ -5,15 +5,19 @@
 //! end. It prints how many entries ended.
 //!
 //! The other modes make steps of a device that holds many entries while a command waits for one
-//! that stands behind them: `dsa_measure drain HELD COUNT` polls an active drain so often, `disable
-//! HELD COUNT` an active disable, and `waiting HELD COUNT` submits, dispatches and finishes other
-//! entries while the drain is active. It prints whether the command still waits, and how many
-//! entries ended.
+//! that came after them: `dsa_measure drain HELD COUNT` polls an active drain so often, `disable
+//! HELD COUNT` an active disable, `waiting HELD COUNT` submits, dispatches and finishes other
+//! entries while the drain is active, and `awaited HELD COUNT` asks which entry it waits for first.
+//! `finish-drain HELD COUNT` tries to end a Drain that waits, with many younger entries in its
+//! queue. It prints whether the command or the Drain still waits, and how many entries ended or
+//! were told. `batches MEMBERS COUNT` makes so many batches of so many members each, and prints how
+//! many were done.
 //!
 //! With no words it makes a small run of each mode, and prints a line for each: the mode's name and
 //! what it came to.
 #![tactic(auto)]
 
+mod batches;
 mod rounds;
 mod waits;
 
@@ -27,7 +31,8 @@ use std::io::Print;
 use std::sync::Wait;
 
 const USAGE: &str =
-    "usage: dsa_measure unshared|shared|settled ROUNDS, or drain|disable|waiting HELD COUNT, or no words for a run of each";
+    "usage: dsa_measure unshared|shared|settled ROUNDS, or drain|disable|waiting|awaited|finish-drain \
+     HELD COUNT, or batches MEMBERS COUNT, or no words for a run of each";
 
 // A device with nothing configured, over linked cells.
 fn make_device(alloc: Global, caps: &Caps) -> Result<Device<LinkedStore>> {
@@ -57,6 +62,8 @@ fn run_each<R: Wait + Print>(rt: &R, alloc: Global) -> Result<()> {
         let done = rounds::run(rt, alloc, mode, 10)?;
         println!(rt; "{name}: done {done}")?;
     }
+    let done = batches::run(alloc, 64, 2)?;
+    println!(rt; "batches: done {done}")?;
     for (name, mode) in waits::MODES {
         let seen = waits::run(alloc, mode, 10, 20)?;
         println!(rt; "{name}: waits {}, done {}", seen.waits, seen.done)?;
@@ -71,6 +78,10 @@ fn main(rt: HostRuntime) -> Result<()> {
         [_, mode, count] => {
             let mode = mode_named(&rounds::MODES, mode)?;
             let done = rounds::run(&rt, rt.alloc(), mode, count.parse()?)?;
+            println!(rt; "done {done}")?;
+        }
+        [_, mode, members, count] if mode_named(&batches::MODES, mode).is_ok() => {
+            let done = batches::run(rt.alloc(), members.parse()?, count.parse()?)?;
             println!(rt; "done {done}")?;
         }
         [_, mode, held, count] => {

@@ -1,12 +1,12 @@
 -- The first place that passes a test, and tables of rules with what follows from their reasons.
 use Rattle.std.proofs.Common.{◌≡◌, ℕ, zero, suc, ◌+◌, ◌<◌, Bool, true, false, nat_lt, List, [], ◌∷◌, ◌++◌, length}
 use Rattle.std.proofs.Common.{map, position, Option, Some, None, option_map, unwrap_or, refl, sym, ◌∙◌, arith, inl, inr}
-use Rattle.std.proofs.Common.{◌&&◌, nat_le, is_some, subst}
-use Rattle.std.proofs.lemmas.{Bool.{cases_lt}, Grind.{common_steps}}
+use Rattle.std.proofs.Common.{◌&&◌, nat_le, is_some, subst, count_by}
+use Rattle.std.proofs.lemmas.{Bool.{cases_lt, lt-ltb}, Grind.{common_steps}}
 use Rattle.std.specs.List.{list_any, position_or_len}
 use Rattle.dsa_base.specs.{Rows.{first_row, when}, Numbers.{has, numbers_below}}
 use Rattle.dsa_base.proofs.NumberLemmas.{numbers_below-hit}
-use Rattle.dsa_regs.specs.Config.{first_past}
+use Rattle.dsa_regs.specs.{declared.GroupConfig.{GroupConfig}, Config.{first_past, is_shared, is_in_two, first_shared}}
 
 -- ---- places
 
@@ -81,6 +81,15 @@ first-below p (suc n) k h none e =
           let here : position_or_len p (k ∷ []) ≡ 0 = rw e refl in
           rw same (after p (numbers_below k) (k ∷ []) none ∙ omega (arith, count-below k, here))
     ]
+
+-- the first number that two groups name
+pub first-shared : (members : GroupConfig → ℕ) (groups : List GroupConfig) (n k : ℕ) → k < n
+    → list_any (is_shared members groups) (numbers_below k) ≡ false → 1 < count_by (λ g. has (members g) k) groups
+    → when (is_in_two members groups n) (first_shared members groups n) ≡ Some k
+first-shared members groups n k low none two =
+    let here : is_shared members groups k ≡ true = lt-ltb _ _ two in
+    let some : is_in_two members groups n ≡ true = numbers_below-hit (is_shared members groups) n k low here in
+    rw (some, first-below (is_shared members groups) n k low none here) refl
 
 -- ---- rules
 

@@ -1,5 +1,6 @@
 pub mod Bytes
 pub mod GivenBytes
+pub mod Heads
 pub mod Hex
 pub mod Names
 pub mod Plain

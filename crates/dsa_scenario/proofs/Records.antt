@@ -1,13 +1,15 @@
 -- One more record.
 use Rattle.dsa_book.specs.declared.answer.Reply.TheVariants as reply
-use Rattle.std.proofs.Common.{◌≡◌, List, [], ◌∷◌, ◌++◌, Option, refl, ap, ◌∙◌, ◌+◌, length, map}
+use Rattle.std.proofs.Common.{◌≡◌, ℕ, true, List, [], ◌∷◌, ◌++◌, Option, refl, ap, ◌∙◌, ◌+◌, length, map}
 use Rattle.std.proofs.Common.{append_assoc, append-nil, add-zero, subst, filter_map}
 use Rattle.std.proofs.lemmas.List.{map-append, Elements.{filter_map-append}}
+use Rattle.dsa_regs.specs.declared.Caps.{Caps}
 use Rattle.dsa_book.specs.declared.answer.{Ticket.{Ticket}, SubmitAnswer.TheVariants.{Accepted}, Reply.{Reply}}
 use Rattle.dsa_book.specs.declared.answer.FetchAnswer.TheVariants.{Fetched}
+use Rattle.dsa_book.specs.Machine.{is_run_after, stored_steps}
 use Rattle.dsa_book.proofs.Gains.{named_by}
 use Rattle.dsa_accounts.proofs.Totals.{name_of}
-use Rattle.dsa_device.specs.{Running.{Running, IsReplay}, Runs.{IsRunOf}}
+use Rattle.dsa_device.specs.{Running.{Running, running_at_first, IsReplay}, Runs.{IsRunOf}}
 use Rattle.dsa_device.proofs.{Runs.{IsRunOf-push}, Steps.{answered-replay}}
 use Rattle.dsa_scenario.specs.declared.{actions.Action.{Action}, run.Record.{Record, TheVariants.{Stepped, Refused}}}
 use Rattle.dsa_scenario.specs.Run.{given_by_reply, ticket_given_by, event_of, answered_by, AreOf, step_of}
@@ -44,6 +46,31 @@ gives now new (Refused fault) same = (tt, rw (same, add-zero) refl)
 pub record Goes (first now : Running) (records : List Record) : Type 0 where
   pub run : IsRunOf first (map (λ step. step.event) (steps_of_records records)) [] (steps_of_records records) now
   pub replay : IsReplay now
+
+-- as one has whose history is that of a run
+pub goes_by : (first now : Running) (records : List Record)
+    → is_run_after first.caps first.capacity first.history (steps_of_records records) ≡ true
+    → (now.caps ≡ first.caps) × (now.capacity ≡ first.capacity)
+    → now.history ≡ first.history ++ stored_steps (steps_of_records records) → IsReplay now → Goes first now records
+goes_by first now records allowed same history replay = record {
+  run = record {
+    steps = steps_of_records records;
+    added = refl;
+    events_are = refl;
+    allowed = allowed;
+    same_caps = same.0;
+    same_capacity = same.1;
+    history = history;
+    replayed = rw same.0 at replay.replayed;
+  };
+  replay = replay;
+}
+
+-- a new device has gone nowhere
+pub goes_nowhere : (caps : Caps) (capacity : ℕ) → IsReplay (running_at_first caps capacity)
+    → Goes (running_at_first caps capacity) (running_at_first caps capacity) []
+goes_nowhere caps capacity = goes_by (running_at_first caps capacity) (running_at_first caps capacity) [] refl
+    (refl, refl) refl
 
 -- with one record more
 pub goes_on : (first now new : Running) (records : List Record) (entry : Record) → Goes first now records

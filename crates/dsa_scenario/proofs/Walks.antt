@@ -9,7 +9,7 @@ use Rattle.dsa_device.specs.{Running.{Running, running_at_first, IsReplay}, Runs
 use Rattle.dsa_scenario.specs.declared.{actions.Action.{Action}, run.Record.{Record}}
 use Rattle.dsa_scenario.specs.Run.{ticket_given_by, event_of, answered_by, steps_of_records, AreOf, Leads, IsTable}
 use Rattle.dsa_scenario.specs.Steps.{standing, Visit, visit, visits, IsAtFirst, IsWalkTo, IsTextOfRun}
-use Rattle.dsa_scenario.proofs.{Records.{AreOf-push, gives, goes_on}, Tickets.{IsTable-noted}}
+use Rattle.dsa_scenario.proofs.{Records.{AreOf-push, gives, goes_nowhere, goes_on}, Tickets.{IsTable-noted}}
 
 -- the step of a record behind those before
 abbrev visit_behind : Caps → ℕ → List Record → Record → Visit
@@ -86,16 +86,7 @@ opened is_page caps capacity now tickets page first blank =
       records = [];
       of_actions = tt;
       count = refl;
-      run = record {
-        steps = [];
-        added = refl;
-        events_are = refl;
-        allowed = refl;
-        same_caps = refl;
-        same_capacity = refl;
-        history = refl;
-        replayed = replay.replayed;
-      };
+      run = (goes_nowhere caps capacity replay).run;
       replay = replay;
       table = λ name. refl;
       in_turn = refl;

@@ -150,19 +150,19 @@ rows_of_kind kind = rows_in (row_of_kind kind)
 abbrev pub kind_named : List ℕ → Option StepKind
 kind_named name = find (λ kind. bytes_eq name (kind_text kind)) kinds
 
--- between a name and those behind it
+-- between a name and those after it
 abbrev pub between_names : List StepKind → List ℕ
 between_names [] = codes " and "
 between_names (kind ∷ more) = codes ", "
 
-abbrev pub names_behind : List StepKind → List ℕ
-names_behind [] = []
-names_behind (kind ∷ more) = between_names more ++ (kind_text kind ++ names_behind more)
+abbrev pub names_after : List StepKind → List ℕ
+names_after [] = []
+names_after (kind ∷ more) = between_names more ++ (kind_text kind ++ names_after more)
 
 -- the names of some kinds, in words
 abbrev pub names_text : List StepKind → List ℕ
 names_text [] = []
-names_text (kind ∷ more) = kind_text kind ++ names_behind more
+names_text (kind ∷ more) = kind_text kind ++ names_after more
 
 -- ---- step objects
 

@@ -10,12 +10,13 @@ use Rattle.serde_json.specs.Data.{item, Members, no_members, member}
 use Rattle.serde_json.specs.Read.{read}
 use Rattle.dsa_desc.specs.declared.{Descriptor.{Descriptor}, Outcome.TheVariants.{Success}}
 use Rattle.dsa_regs.specs.declared.{Caps.{Caps}, QueueConfig.{QueueConfig}, GroupConfig.{GroupConfig}}
+use Rattle.dsa_regs.specs.Worked.{shared_queue, smallest}
 use Rattle.dsa_regs.specs.declared.Command.TheVariants.{EnableDevice, EnableWq}
 use Rattle.dsa_regs.specs.declared.Fault.TheVariants.{BadCommand}
 use Rattle.dsa_book.specs.declared.answer.{Ticket.{Ticket}, Reply.{Reply}, SubmitAnswer.TheVariants.{Accepted}}
 use Rattle.dsa_book.specs.declared.answer.{DispatchAnswer.TheVariants.{Taken}, FetchAnswer.TheVariants.{Fetched}}
 use Rattle.dsa_book.specs.declared.answer.{FinishAnswer.TheVariants.{Done}, IssueAnswer.TheVariants.{Ended}}
-use Rattle.dsa_book.specs.declared.answer.{PollAnswer.TheVariants.{Full}, WriteAnswer.TheVariants.{Written}}
+use Rattle.dsa_book.specs.declared.answer.{PollAnswer.TheVariants.{Full, Nothing}, WriteAnswer.TheVariants.{Written}}
 use Rattle.dsa_book.specs.declared.event.{Event.{Event}, Kind.TheVariants.{Enqcmd, Movdir64b}}
 use Rattle.dsa_book.specs.declared.event.Portal.TheVariants.{Limited}
 use Rattle.dsa_book.specs.declared.fate.{Fate.{Fate}, FateRow.{FateRow}}
@@ -102,14 +103,14 @@ module _ {A : Type 0} (read : Data → Option A) (fields : Fields) where
 
 abbrev pub some_caps : Fields
 some_caps =
-    (codes "queues", whole 1) ∷
-    (codes "groups", whole 2) ∷
-    (codes "engines", whole 3) ∷
-    (codes "total_size", whole 4) ∷
-    (codes "read_buffers", whole 5) ∷
-    (codes "slots", whole 6) ∷
-    (codes "max_batch_shift", whole 7) ∷
-    (codes "max_xfer_shift", whole 8) ∷ []
+    (codes "queues", whole 1) ∷ (codes "groups", whole 2) ∷ (codes "engines", whole 3) ∷
+    (codes "total_size", whole 4) ∷ (codes "read_buffers", whole 5) ∷ (codes "slots", whole 6) ∷
+    (codes "max_batch_shift", whole 7) ∷ (codes "max_xfer_shift", whole 0) ∷ []
+
+-- what they say
+abbrev pub caps_in_fields : Caps
+caps_in_fields =
+    record smallest { groups = 2; engines = 3; total_size = 4; read_buffers = 5; slots = 6; max_batch_shift = 7 }
 
 abbrev pub some_document : Fields
 some_document =
@@ -123,22 +124,19 @@ step_of_kind kind fields = (codes "do", string kind) ∷ fields
 
 abbrev pub queue_step : Fields
 queue_step = step_of_kind (codes "queue") (
-    (codes "queue", whole 1) ∷
-    (codes "size", whole 2) ∷
-    (codes "threshold", whole 3) ∷
-    (codes "dedicated", boolean true) ∷
-    (codes "priority", whole 4) ∷
-    (codes "pasid", whole 5) ∷
-    (codes "batch", whole 6) ∷
-    (codes "xfer", whole 7) ∷ [])
+    (codes "queue", whole 1) ∷ (codes "size", whole 2) ∷ (codes "threshold", whole 6) ∷
+    (codes "dedicated", boolean true) ∷ (codes "priority", whole 4) ∷ (codes "pasid", whole 5) ∷
+    (codes "batch", whole 3) ∷ (codes "xfer", whole 7) ∷ [])
+
+-- what it writes
+abbrev pub queue_in_fields : QueueConfig
+queue_in_fields =
+    record shared_queue { size = 2; threshold = 6; dedicated = true; priority = 4; pasid = 5; max_xfer_shift = 7 }
 
 abbrev pub group_step : Fields
 group_step = step_of_kind (codes "group") (
-    (codes "group", whole 1) ∷
-    (codes "queues", whole 2) ∷
-    (codes "engines", whole 3) ∷
-    (codes "reserved", whole 4) ∷
-    (codes "allowed", whole 5) ∷ [])
+    (codes "group", whole 1) ∷ (codes "queues", whole 2) ∷ (codes "engines", whole 3) ∷
+    (codes "reserved", whole 4) ∷ (codes "allowed", whole 5) ∷ [])
 
 -- the operation of a Fill, and no more
 abbrev pub fill_text : List ℕ
@@ -150,17 +148,12 @@ fill = record { pasid = 0; flags = 0; op = 4; size = 0 }
 
 abbrev pub enqcmd_step : Fields
 enqcmd_step = step_of_kind (codes "enqcmd") (
-    (codes "client", whole 1) ∷
-    (codes "queue", whole 2) ∷
-    (codes "limited", boolean true) ∷
-    (codes "pasid", whole 3) ∷
-    (codes "desc", string fill_text) ∷ [])
+    (codes "client", whole 1) ∷ (codes "queue", whole 2) ∷ (codes "limited", boolean true) ∷
+    (codes "pasid", whole 3) ∷ (codes "desc", string fill_text) ∷ [])
 
 abbrev pub movdir_step : Fields
 movdir_step = step_of_kind (codes "movdir") (
-    (codes "client", whole 1) ∷
-    (codes "queue", whole 2) ∷
-    (codes "limited", boolean false) ∷
+    (codes "client", whole 1) ∷ (codes "queue", whole 2) ∷ (codes "limited", boolean false) ∷
     (codes "desc", string fill_text) ∷ [])
 
 abbrev pub dispatch_step : Fields
@@ -174,9 +167,7 @@ start_step = step_of_kind (codes "start") ((codes "engine", whole 1) ∷ [])
 
 abbrev pub finish_step : Fields
 finish_step = step_of_kind (codes "finish") (
-    (codes "engine", whole 1) ∷
-    (codes "name", whole 2) ∷
-    (codes "fault", boolean true) ∷ [])
+    (codes "engine", whole 1) ∷ (codes "name", whole 2) ∷ (codes "fault", boolean true) ∷ [])
 
 -- Enable WQ of queue 2
 abbrev pub command_step : Fields
@@ -192,16 +183,7 @@ clear_step = step_of_kind (codes "clear") []
 
 -- a device with as little as there may be
 abbrev pub smallest_caps : Caps
-smallest_caps = record {
-  queues = 1;
-  groups = 1;
-  engines = 1;
-  total_size = 1;
-  read_buffers = 1;
-  slots = 1;
-  max_batch_shift = 1;
-  max_xfer_shift = 0;
-}
+smallest_caps = smallest
 
 -- no device has these
 abbrev pub no_caps : Caps
@@ -255,6 +237,10 @@ stepped event reply = Stepped (record { event = event; reply = reply })
 abbrev pub accepted : Ticket → Record
 accepted record_ticket = stepped (event.Submit 0 0 Limited Movdir64b fill) (reply.Submit (Accepted record_ticket))
 
+-- a poll, to which there was nothing to tell
+abbrev pub polled : List Record
+polled = stepped event.Poll (reply.Poll Nothing) ∷ []
+
 -- a member was fetched under this ticket
 abbrev pub record_of_a_fetch : Ticket → Record
 record_of_a_fetch record_ticket = stepped (event.Fetch 0 fill) (reply.Fetch (Fetched record_ticket))
@@ -273,27 +259,11 @@ digits_on_literals = tt
 -- ---- a run of one submission on a device of one engine, which fills the history
 
 abbrev pub caps_of_a_run : Caps
-caps_of_a_run = record {
-  queues = 1;
-  groups = 1;
-  engines = 1;
-  total_size = 16;
-  read_buffers = 32;
-  slots = 4;
-  max_batch_shift = 3;
-  max_xfer_shift = 20;
-}
+caps_of_a_run =
+    record smallest { total_size = 16; read_buffers = 32; slots = 4; max_batch_shift = 3; max_xfer_shift = 20 }
 
 abbrev pub queue_of_a_run : QueueConfig
-queue_of_a_run = record {
-  size = 16;
-  threshold = 8;
-  dedicated = false;
-  priority = 1;
-  pasid = 0;
-  max_batch_shift = 3;
-  max_xfer_shift = 20;
-}
+queue_of_a_run = record shared_queue { size = 16; threshold = 8 }
 
 abbrev pub group_of_a_run : GroupConfig
 group_of_a_run = record { queues = 1; engines = 1; reserved = 0; allowed = 32 }

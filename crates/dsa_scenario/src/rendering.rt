@@ -31,13 +31,16 @@ pub struct Rendering {
     pub document: Option<Value>,
 }
 
+/// What comes of making a text of a document.
+pub type Rendered = Result<Rendering, ScenarioFault>;
+
 /// A way to make a text of a document.
 pub trait Render: Drop {
     // the text, and the fault told after it, are what this makes of the bytes
     ghost is_rendering: { Self → List ℕ → Option ScenarioFault → List ℕ → Type 0 };
 
     /// The text of the document in these bytes, or the document's fault.
-    fn render(&self, alloc: Global, bytes: &[u8]) -> Result<Rendering, ScenarioFault>
+    fn render(&self, alloc: Global, bytes: &[u8]) -> Rendered
         ensures ok { IfOk result
             (λ r. is_rendering self.now bytes.now r.fault (string_bytes r.text)) }
         ensures err { IfErr result (λ e. (e ≡ ScenarioFault.OutOfMemory) ⊎ IsFaultOf bytes.now e) };
@@ -55,7 +58,7 @@ pub fn render_counted<D: Render, R: Read, W: Write>(
     what: &D,
     reader: &mut CountedReader<'_, R>,
     writer: &mut WatchedWriter<'_, W>,
-) -> Result<Rendering, ScenarioFault>
+) -> Rendered
     ensures reader { IsReadFor R.remaining result reader.old reader.new }
     ensures writer { IsWrittenFor result writer.old writer.new }
     ensures reads { asked_of reader.new ≤ asked_of reader.old + MAX_READS }
@@ -86,7 +89,7 @@ fn write_rendering<D: Render, W: Write>(
     what: &D,
     bytes: &[u8],
     writer: &mut WatchedWriter<'_, W>,
-) -> Result<Rendering, ScenarioFault>
+) -> Rendered
     ensures writer { IsWrittenFor result writer.old writer.new }
     ensures ok { IfOk result
         (λ r. (text : List ℕ)
@@ -123,7 +126,7 @@ pub fn render_input<D: Render, R: Read, W: Write>(
     what: &D,
     reader: &mut R,
     writer: &mut WatchedWriter<'_, W>,
-) -> Result<Rendering, ScenarioFault>
+) -> Rendered
     ensures writer { IsWrittenFor result writer.old writer.new }
     ensures ok { IfOk result
         (λ r. IsTextWritten (λ bytes text. D.is_rendering what.now bytes r.fault text)

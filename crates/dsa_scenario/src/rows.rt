@@ -40,7 +40,7 @@ ghost use Rattle.dsa_scenario.specs.Run.{ticket_of_name, event_of, steps_of_reco
 ghost use Rattle.dsa_scenario.specs.Scenario.{HasFault, IsCutShort, IsRenderingOf, IsTextCutShort, IsTextWritten, IsWholeDocument};
 ghost use Rattle.dsa_scenario.specs.Steps.{line_of_step, standing, visit, visits, AreLinesOfSteps, IsAtFirst, IsTextOfDocument, IsTextOfRun, IsWalkTo};
 ghost use Rattle.dsa_scenario.specs.Watched.{has_refused, is_closed, IsWrittenFor};
-ghost use Rattle.dsa_scenario.specs.Worked.{actions_of_a_run, actions_of_a_submission, caps_of_a_run, no_caps, poll_text, records_of_a_submission, running_with_fates, smallest_caps, stepless_text, lines_of_a_run, whole, read_number, fate, smallest_caps_text, no_caps_text, document_text, object_of, changed, texts, takes, refuses, needs_each, are_below, is_truth, is_text, some_caps, some_document, queue_step, group_step, fill_text, fill, enqcmd_step, movdir_step, dispatch_step, fetch_step, start_step, finish_step, command_step, poll_step, clear_step, record_ticket, stepped, accepted, record_of_a_fetch};
+ghost use Rattle.dsa_scenario.specs.Worked.{actions_of_a_run, actions_of_a_submission, caps_of_a_run, no_caps, poll_text, records_of_a_submission, running_with_fates, smallest_caps, stepless_text, lines_of_a_run, whole, read_number, fate, smallest_caps_text, no_caps_text, document_text, object_of, changed, texts, takes, refuses, needs_each, are_below, is_truth, is_text, some_caps, caps_in_fields, some_document, queue_step, queue_in_fields, group_step, fill_text, fill, enqcmd_step, movdir_step, dispatch_step, fetch_step, start_step, finish_step, command_step, poll_step, clear_step, record_ticket, stepped, accepted, record_of_a_fetch};
 
 /// Numbers are whole, without sign, and below the limit of their field; the key stands in an
 /// object.
@@ -109,17 +109,7 @@ pub fn hex_lengths()
 
 /// The capabilities, each in a field of its own.
 pub fn caps_fields()
-    ensures read { caps_of (object_of some_caps)
-        ≡ Some (record {
-          queues = 1;
-          groups = 2;
-          engines = 3;
-          total_size = 4;
-          read_buffers = 5;
-          slots = 6;
-          max_batch_shift = 7;
-          max_xfer_shift = 8;
-        }) }
+    ensures read { caps_of (object_of some_caps) ≡ Some caps_in_fields }
     ensures needed { needs_each caps_of some_caps ≡ true }
     ensures counts { are_below caps_of some_caps (2 ^ 16)
         (codes "queues"
@@ -138,20 +128,7 @@ pub fn caps_fields()
 /// The three keys of a document. Others are ignored.
 pub fn document_fields()
     ensures read { head_of (object_of some_document)
-        ≡ Some (
-          record {
-            queues = 1;
-            groups = 2;
-            engines = 3;
-            total_size = 4;
-            read_buffers = 5;
-            slots = 6;
-            max_batch_shift = 7;
-            max_xfer_shift = 8;
-          },
-          9,
-          item (whole 1) no_items,
-        ) }
+        ≡ Some (caps_in_fields, 9, item (whole 1) no_items) }
     ensures more { head_of (object_of ((codes "more", null) ∷ some_document))
         ≡ head_of (object_of some_document) }
     ensures needed { needs_each head_of some_document ≡ true }
@@ -170,17 +147,7 @@ pub fn document_fields()
 
 /// A write of a queue's configuration.
 pub fn queue_steps()
-    ensures read { action_of (object_of queue_step)
-        ≡ Some (Ask (WriteQueue 1
-        (record {
-          size = 2;
-          threshold = 3;
-          dedicated = true;
-          priority = 4;
-          pasid = 5;
-          max_batch_shift = 6;
-          max_xfer_shift = 7;
-        }))) }
+    ensures read { action_of (object_of queue_step) ≡ Some (Ask (WriteQueue 1 queue_in_fields)) }
     ensures needed { needs_each action_of queue_step ≡ true }
     ensures counts { are_below action_of queue_step (2 ^ 16)
         (codes "queue" ∷ codes "size" ∷ codes "threshold" ∷ [])
@@ -648,17 +615,12 @@ pub fn reads()
     ensures asked_for_a_byte { (old : CountedReader (List ℕ)) (new : CountedReader (List ℕ))
         → counted_remaining Some old ≡ Some (codes "12")
         → counted_remaining Some new ≡ Some (codes "2") → given_of new ≡ given_of old + 1
-        → asked_of new ≡ asked_of old + 1
-        → IsAskedFor Some old new 0 }
+        → (asked_of new ≡ asked_of old + 1 → IsAskedFor Some old new 0)
+        × (asked_of new ≡ asked_of old + 2 → IsAskedFor Some old new 1) }
     ensures asked_twice_for_it { (old : CountedReader (List ℕ)) (new : CountedReader (List ℕ))
         → given_of new ≡ given_of old + 1
         → asked_of new ≡ asked_of old + 2
         → ¬ IsAskedFor Some old new 0 }
-    ensures asked_besides { (old : CountedReader (List ℕ)) (new : CountedReader (List ℕ))
-        → counted_remaining Some old ≡ Some (codes "12")
-        → counted_remaining Some new ≡ Some (codes "2") → given_of new ≡ given_of old + 1
-        → asked_of new ≡ asked_of old + 2
-        → IsAskedFor Some old new 1 }
     ensures given_uncounted { (old : CountedReader (List ℕ)) (new : CountedReader (List ℕ))
         → given_of new ≡ given_of old
         → ¬ HasGiven Some old new (codes "1") }

@@ -6,15 +6,12 @@ ghost use Rattle.dsa_scenario.specs.Steps.{line_of_step, AreLinesOfSteps};
 
 use crate::faults::ScenarioFault;
 use crate::lines::{add_record, add_rows};
-use crate::rendering::{Render, Rendering, render_input};
-use crate::run::Record;
-use crate::steps::{RenderSteps, render_steps};
+use crate::rendering::{Render, Rendered, render_input};
+use crate::steps::{Added, Asked, MadeText, RenderSteps, StepMade, render_steps};
 use crate::watched::WatchedWriter;
-use dsa_book::Event;
 use dsa_device::Device;
-use dsa_regs::Fault;
 use dsa_store::EntryStore;
-use std::alloc::{AllocError, Global};
+use std::alloc::Global;
 use std::io::{Read, Write};
 
 /// The lines of a document's run, as a way to make a text of it.
@@ -36,35 +33,17 @@ impl RenderSteps for PlainRun {
     }
 
     #[inline(always)]
-    fn look<S: EntryStore>(
-        &self,
-        alloc: Global,
-        _device: &Device<S>,
-        _asked: &Result<Event, Fault>,
-    ) -> Result<String, AllocError> {
+    fn look<S: EntryStore>(&self, alloc: Global, _device: &Device<S>, _asked: &Asked) -> MadeText {
         Ok(String::new(alloc))
     }
 
     #[inline(always)]
-    fn add_step<S: EntryStore>(
-        &self,
-        _alloc: Global,
-        page: &mut String,
-        _number: usize,
-        _told: &str,
-        entry: &Record,
-        _device: &Device<S>,
-    ) -> Result<(), AllocError> {
-        add_record(page, entry)
+    fn add_step<S: EntryStore>(&self, page: &mut String, step: &StepMade<'_, S>) -> Added {
+        add_record(page, step.entry)
     }
 
     #[inline(always)]
-    fn finish<S: EntryStore>(
-        &self,
-        _alloc: Global,
-        page: String,
-        device: &Device<S>,
-    ) -> Result<String, AllocError> {
+    fn finish<S: EntryStore>(&self, _alloc: Global, page: String, device: &Device<S>) -> MadeText {
         let mut text = page;
         add_rows(&mut text, device.fates())?;
         Ok(text)
@@ -74,7 +53,7 @@ impl RenderSteps for PlainRun {
 impl Render for PlainRun {
     ghost is_rendering = { λ plain bytes fault text. (fault ≡ None) × IsRenderingOf bytes text };
 
-    fn render(&self, alloc: Global, bytes: &[u8]) -> Result<Rendering, ScenarioFault> {
+    fn render(&self, alloc: Global, bytes: &[u8]) -> Rendered {
         render_steps(alloc, self, bytes)
     }
 }

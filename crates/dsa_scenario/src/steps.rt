@@ -5,17 +5,15 @@ ghost use Rattle.serde_json.specs.View.{view};
 ghost use Rattle.dsa_regs.specs.declared.{Caps.{Caps}, Fault.{Fault}};
 ghost use Rattle.dsa_book.specs.declared.event.Event.{Event};
 ghost use Rattle.dsa_device.specs.Running.{Running};
-ghost use Rattle.dsa_scenario.specs.declared.actions.Action.{Action};
-ghost use Rattle.dsa_scenario.specs.Actions.{action_of};
+ghost use Rattle.dsa_scenario.specs.{declared.actions.Action.{Action}, Actions.{action_of}, Run.{answered_by}};
 ghost use Rattle.dsa_scenario.specs.Document.{IsFirstBad, IsFaultOf};
-ghost use Rattle.dsa_scenario.specs.Run.{answered_by};
 ghost use Rattle.dsa_scenario.specs.Steps.{Visit, visit, IsWalkTo, IsTextOfDocument};
 
 use crate::actions::{Action, parse_action};
 use crate::document::{parse_head, parse_json};
 use crate::faults::ScenarioFault;
 use crate::opening::{MakeStore, Run, open_run};
-use crate::rendering::Rendering;
+use crate::rendering::{Rendered, Rendering};
 use crate::run::{Record, ask, event_for, note_ticket};
 use dsa_book::Event;
 use dsa_cells::LinkedStore;
@@ -24,6 +22,26 @@ use dsa_regs::Fault;
 use dsa_store::EntryStore;
 use serde_json::Value;
 use std::alloc::{AllocError, Global};
+
+/// What a step asks of a device, or the refusal of its word.
+pub type Asked = Result<Event, Fault>;
+
+/// What comes of adding to a page, which may want memory.
+pub type Added = Result<(), AllocError>;
+
+/// What comes of making a text, which may want memory.
+pub type MadeText = Result<String, AllocError>;
+
+/// A step that was made: its number, what was told of the device before it, its record, and the
+/// device as it stands after it.
+#[derive(Drop)]
+pub struct StepMade<'a, S: EntryStore> {
+    pub alloc: Global,
+    pub number: usize,
+    pub told: &'a str,
+    pub entry: &'a Record,
+    pub device: &'a Device<S>,
+}
 
 /// What makes a text of a run, step by step.
 pub trait RenderSteps: Drop {
@@ -44,41 +62,25 @@ pub trait RenderSteps: Drop {
         ensures { is_page self.now [] result };
 
     /// What is told of the device before a step that asks this of it.
-    fn look<S: EntryStore>(
-        &self,
-        alloc: Global,
-        device: &Device<S>,
-        asked: &Result<Event, Fault>,
-    ) -> Result<String, AllocError>
+    fn look<S: EntryStore>(&self, alloc: Global, device: &Device<S>, asked: &Asked) -> MadeText
         ensures { IfOk result
             (λ told. string_bytes told ≡ told_before self.now device.now asked.now) };
 
-    /// Adds the step of this number to the page, with what was told before it. The device is as it
-    /// stands after it.
-    fn add_step<S: EntryStore>(
-        &self,
-        alloc: Global,
-        page: &mut Self::Page,
-        number: usize,
-        told: &str,
-        entry: &Record,
-        device: &Device<S>,
-    ) -> Result<(), AllocError>
+    /// Adds a step to the page.
+    fn add_step<S: EntryStore>(&self, page: &mut Self::Page, step: &StepMade<'_, S>) -> Added
         ensures { OnOk result
             ((steps : List Visit)
             → (before : Running)
-            → told.now ≡ told_before self.now before (answered_by entry.now)
+            → step.now.told.now ≡ told_before self.now before (answered_by step.now.entry.now)
             → is_page self.now steps page.old
             → is_page self.now
-            (steps ++ visit number before entry.now device.now ∷ []) page.new) };
+            (steps
+            ++ visit step.now.number before step.now.entry.now step.now.device.now
+            ∷ [])
+            page.new) };
 
     /// The text, from the page of all steps and the device as it stands at last.
-    fn finish<S: EntryStore>(
-        &self,
-        alloc: Global,
-        page: Self::Page,
-        device: &Device<S>,
-    ) -> Result<String, AllocError>
+    fn finish<S: EntryStore>(&self, alloc: Global, page: Self::Page, device: &Device<S>) -> MadeText
         ensures { IfOk result (λ text. (steps : List Visit) → is_page self.now steps page
             → is_text self.now steps device.now (string_bytes text)) };
 }
@@ -96,7 +98,7 @@ impl<S: EntryStore> Run<S> {
         page: &mut D::Page,
         number: usize,
         action: Action,
-    ) -> Result<(), AllocError>
+    ) -> Added
         ensures { OnOk result
             ((caps : Caps)
             → (capacity : ℕ) → (done : List Action)
@@ -109,7 +111,14 @@ impl<S: EntryStore> Run<S> {
         let told = what.look(alloc, &self.device, &asked)?;
         let entry = ask(&mut self.device, &asked);
         note_ticket(&mut self.tickets, &entry)?;
-        what.add_step(alloc, page, number, &told, &entry, &self.device)
+        let step = StepMade {
+            alloc,
+            number,
+            told: &told,
+            entry: &entry,
+            device: &self.device,
+        };
+        what.add_step(page, &step)
     }
 
     /// Runs the step objects, each as soon as it is read, and adds their steps to the page.
@@ -143,11 +152,7 @@ impl<S: EntryStore> Run<S> {
 }
 
 /// What `what` makes of a run of the document in these bytes, on a device over such a store.
-pub fn render_over<S: MakeStore, D: RenderSteps>(
-    alloc: Global,
-    what: &D,
-    bytes: &[u8],
-) -> Result<Rendering, ScenarioFault>
+pub fn render_over<S: MakeStore, D: RenderSteps>(alloc: Global, what: &D, bytes: &[u8]) -> Rendered
     ensures ok { IfOk result
         (λ r. (r.fault ≡ None)
         × IsTextOfDocument (D.is_text what.now) bytes.now (string_bytes r.text)) }
@@ -169,11 +174,7 @@ pub fn render_over<S: MakeStore, D: RenderSteps>(
 }
 
 /// What `what` makes of a run of the document in these bytes.
-pub fn render_steps<D: RenderSteps>(
-    alloc: Global,
-    what: &D,
-    bytes: &[u8],
-) -> Result<Rendering, ScenarioFault>
+pub fn render_steps<D: RenderSteps>(alloc: Global, what: &D, bytes: &[u8]) -> Rendered
     ensures ok { IfOk result
         (λ r. (r.fault ≡ None)
         × IsTextOfDocument (D.is_text what.now) bytes.now (string_bytes r.text)) }

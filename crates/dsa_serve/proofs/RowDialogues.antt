@@ -4,12 +4,13 @@ use Rattle.std.proofs.Common.{◌≡◌, ◌≢◌, ◌≤◌, ◌^◌, ◌∙�
 use Rattle.std.proofs.Common.{arith, lit≤}
 use Rattle.std.specs.Prelude.{Option, Some, None, IsUtf8}
 use Rattle.std.proofs.lemmas.{Option.{same_Some}, List.Elements.{All-nil}}
-use Rattle.serde_json.{specs.{Data.{Data, Items}, Read.{read}}, proofs.OnLiterals.{serde_json_on_literals}}
+use Rattle.serde_json.{specs.{Data.{Data}, Read.{read}}, proofs.OnLiterals.{serde_json_on_literals}}
 use Rattle.dsa_regs.specs.declared.Caps.{Caps}
 use Rattle.dsa_book.specs.{Machine.{is_run, replay, stored_steps}, State.{State, opening}}
 use Rattle.dsa_scenario.specs.declared.{actions.Action.{Action, TheVariants.{Ask}}, run.Record.{Record}}
 use Rattle.dsa_scenario.specs.{Actions.{action_of}, Document.{head_of, list_of_items, IsDocument, IsOpenable}}
 use Rattle.dsa_scenario.specs.{Run.{AreOf, steps_of_records}, Steps.{visits}, Worked.{smallest_caps}}
+use Rattle.dsa_scenario.proofs.Heads.{Head, document_by, same_head}
 use Rattle.dsa_serve.specs.declared.requests.LineFault.TheVariants.{NotJson, NoStep, TooLong}
 use Rattle.dsa_serve.specs.declared.requests.Request.{Request, TheVariants.{Step, Explain, Fault}}
 use Rattle.dsa_serve.specs.{Requests.{request_of, IsRead, Asks, AreAsked, actions_of}, Answers.{answers}}
@@ -18,16 +19,6 @@ use Rattle.dsa_serve.specs.Worked.{poll_line, explained_poll_line, first_line}
 use Rattle.dsa_serve.proofs.RowLines.{line_by_test}
 
 -- ---- documents
-
--- a text is the document that it is read as
-document_by : (text : List ℕ) (d : Data) (caps : Caps) (capacity : ℕ) (items : Items) (actions : List Action)
-    → IsUtf8 text → read text ≡ Some d → head_of d ≡ Some (caps, capacity, items)
-    → map action_of (list_of_items items) ≡ map Some actions → IsDocument text caps capacity actions
-document_by text d caps capacity items actions utf8 reads head asked = record {
-  steps = list_of_items items;
-  head = record { document = d; items = items; json = record { utf8 = utf8; value = reads }; head = head; listed = refl };
-  asked = asked;
-}
 
 -- a first line without steps, and one with a step
 pub bare_document : IsDocument (first_line []) smallest_caps 9 []
@@ -40,17 +31,13 @@ poll_document =
     document_by (first_line poll_line) _ smallest_caps 9 _ (Ask event.Poll ∷ []) (first_line poll_line, (refl, refl))
     refl refl refl
 
-abbrev Head : Type 0
-Head = Caps × ℕ × Items
-
 -- a document has the caps, the capacity and the steps of what it is read as
 pub parts_are : (text : List ℕ) (caps : Caps) (capacity : ℕ) (actions : List Action) (d : Data) (found : Head)
     → read text ≡ Some d → head_of d ≡ Some found → IsDocument text caps capacity actions
     → (found.0 ≡ caps) × (found.1 ≡ capacity) × (map action_of (list_of_items found.2) ≡ map Some actions)
 parts_are text caps capacity actions d found reads has is =
-    let value = is.head.json.value in
-    let same : d ≡ is.head.document = cc in
-    let head : Some found ≡ Some (caps, capacity, is.head.items) = sym has ∙ ap head_of same ∙ is.head.head in
+    let head : Some found ≡ Some (caps, capacity, is.head.items) =
+    sym has ∙ same_head text d caps capacity is.steps reads is.head in
     let parts = same_Some {A = Head} found (caps, capacity, is.head.items) head in (
       ap (λ (h : Head). h.0) parts,
       ap (λ (h : Head). h.1) parts,
@@ -61,9 +48,8 @@ parts_are text caps capacity actions d found reads has is =
 pub no_document : (text : List ℕ) (caps : Caps) (capacity : ℕ) (actions : List Action) (d : Data) → read text ≡ Some d
     → head_of d ≡ None → ¬ IsDocument text caps capacity actions
 no_document text caps capacity actions d reads none is =
-    let value = is.head.json.value in
-    let same : d ≡ is.head.document = cc in
-    let head : ◌≡◌ {A = Option Head} None (Some (caps, capacity, is.head.items)) = sym none ∙ ap head_of same ∙ is.head.head in
+    let head : ◌≡◌ {A = Option Head} None (Some (caps, capacity, is.head.items)) =
+    sym none ∙ same_head text d caps capacity is.steps reads is.head in
     absurd cc
 
 -- a number begins no dialogue

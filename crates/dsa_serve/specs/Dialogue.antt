@@ -141,6 +141,19 @@ IsStoppedWithin room fault had left held holds =
     × HasFirst ended input first behind × (ended ≡ true → IsAtEnd left) × (length behind ≤ room)
     × IsFaultOf first fault × Appends held holds []
 
+-- a dialogue in its course, whose reader has this left and whose writer holds this, goes on, and has and holds that
+-- (profile)
+abbrev pub GoesOn : {S : Type 0} → Option (List ℕ) → Option (List ℕ) → Dialogue S → Option (List ℕ)
+    → Option (List ℕ) → Dialogue S → Type 0
+GoesOn left holds dialogue now_left now_holds new = (had : Option (List ℕ)) (held : Option (List ℕ))
+    → IsInCourse false had left held holds dialogue → IsInCourse false had now_left held now_holds new
+
+-- or was stopped by this fault, where reads give no more bytes than this (profile)
+abbrev pub IsStoppedOn : {S : Type 0} → ℕ → ScenarioFault → Option (List ℕ) → Option (List ℕ) → Dialogue S
+    → Option (List ℕ) → Option (List ℕ) → Type 0
+IsStoppedOn room fault left holds dialogue now_left now_holds = (had : Option (List ℕ)) (held : Option (List ℕ))
+    → IsInCourse false had left held holds dialogue → IsStoppedWithin room fault had now_left held now_holds
+
 -- the same where a read gives at most 2^16 bytes (profile)
 abbrev pub IsStopped : ScenarioFault → Option (List ℕ) → Option (List ℕ) → Option (List ℕ) → Option (List ℕ) → Type 0
 IsStopped fault had left held holds = IsStoppedWithin (2 ^ 16) fault had left held holds

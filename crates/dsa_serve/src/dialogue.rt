@@ -1,8 +1,7 @@
 //! A dialogue in its course: a session, and what has come of the next line.
 
 ghost use Rattle.std.specs.Prelude.{◌≡◌, ◌++◌, ◌+◌, [], ◌∷◌, ℕ, List, take, OnOk, string_bytes};
-ghost use Rattle.dsa_serve.specs.Input.{IsLine};
-ghost use Rattle.dsa_serve.specs.Dialogue.{IsServing, IsDialogueEnded};
+ghost use Rattle.dsa_serve.specs.{Input.{IsLine}, Dialogue.{IsServing, IsDialogueEnded}};
 
 use crate::requests::MAX_LINE;
 use crate::session::Session;

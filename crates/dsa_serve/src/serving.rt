@@ -5,7 +5,7 @@ ghost use Rattle.std.specs.Io.KnownBytes.{Consumes, IsAtEnd, Appends};
 ghost use Rattle.dsa_scenario.specs.declared.faults.ScenarioFault.{ScenarioFault};
 ghost use Rattle.dsa_scenario.specs.Counted.{counted_remaining, asked_of, given_of, IsAskedFor, IsReadFor};
 ghost use Rattle.dsa_scenario.specs.Watched.{watched_contents, IsWrittenFor};
-ghost use Rattle.dsa_serve.specs.Dialogue.{AnswersAll, IsInCourse, IsLate, IsStoppedWithin, IsStopped};
+ghost use Rattle.dsa_serve.specs.Dialogue.{AnswersAll, GoesOn, IsInCourse, IsLate, IsStoppedOn, IsStoppedWithin, IsStopped};
 
 use crate::dialogue::Dialogue;
 use crate::front::read_first;
@@ -83,20 +83,15 @@ fn turn<S: EntryStore, R: Read, W: Write>(
         ⊎ (2 ^ 64 ≤ given_of reader.old + length chunk.old)))) }
     ensures fits { asked_of reader.new < 2 ^ 64 }
     ensures asked_for_more { result ≡ Ok true → IsAskedFor R.remaining reader.old reader.new 0 }
-    ensures ok { OnOk result
-        ((had : Option (List ℕ)) (held : Option (List ℕ))
-        → IsInCourse false had (counted_remaining R.remaining reader.old) held
+    ensures ok { OnOk result (GoesOn (counted_remaining R.remaining reader.old)
         (watched_contents W.contents writer.old) dialogue.old
-        → IsInCourse false had (counted_remaining R.remaining reader.new) held
+        (counted_remaining R.remaining reader.new)
         (watched_contents W.contents writer.new) dialogue.new) }
     ensures end { result ≡ Ok false → IsAtEnd (counted_remaining R.remaining reader.new) }
     ensures late { IfErr result IsLate }
-    ensures stopped { IfErr result
-        (λ e. (had : Option (List ℕ)) (held : Option (List ℕ))
-        → IsInCourse false had (counted_remaining R.remaining reader.old) held
-        (watched_contents W.contents writer.old) dialogue.old
-        → IsStoppedWithin (length chunk.old) e had
-        (counted_remaining R.remaining reader.new) held
+    ensures stopped { IfErr result (λ e. IsStoppedOn (length chunk.old) e
+        (counted_remaining R.remaining reader.old) (watched_contents W.contents writer.old)
+        dialogue.old (counted_remaining R.remaining reader.new)
         (watched_contents W.contents writer.new)) }
 {
     let count = reader.read_once(chunk)?;
@@ -117,20 +112,15 @@ fn serve_lines<S: EntryStore, R: Read, W: Write>(
     requires { 0 < length chunk.old }
     ensures reader { IsReadFor R.remaining result reader.old reader.new }
     ensures writer { IsWrittenFor result writer.old writer.new }
-    ensures ok { OnOk result
-        ((had : Option (List ℕ)) (held : Option (List ℕ))
-        → IsInCourse false had (counted_remaining R.remaining reader.old) held
+    ensures ok { OnOk result (GoesOn (counted_remaining R.remaining reader.old)
         (watched_contents W.contents writer.old) dialogue.old
-        → IsInCourse false had (counted_remaining R.remaining reader.new) held
+        (counted_remaining R.remaining reader.new)
         (watched_contents W.contents writer.new) dialogue.new) }
     ensures end { OnOk result (IsAtEnd (counted_remaining R.remaining reader.new)) }
     ensures late { IfErr result IsLate }
-    ensures stopped { IfErr result
-        (λ e. (had : Option (List ℕ)) (held : Option (List ℕ))
-        → IsInCourse false had (counted_remaining R.remaining reader.old) held
-        (watched_contents W.contents writer.old) dialogue.old
-        → IsStoppedWithin (length chunk.old) e had
-        (counted_remaining R.remaining reader.new) held
+    ensures stopped { IfErr result (λ e. IsStoppedOn (length chunk.old) e
+        (counted_remaining R.remaining reader.old) (watched_contents W.contents writer.old)
+        dialogue.old (counted_remaining R.remaining reader.new)
         (watched_contents W.contents writer.new)) }
 {
     let mut text = String::new(alloc);

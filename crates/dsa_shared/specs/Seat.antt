@@ -1,6 +1,6 @@
 -- What callers see of a seat.
 use Rattle.std.specs.Prelude.{◌≡◌, ℕ, ◌<◌, List, [], length, slice_index_or}
-use Rattle.dsa_regs.specs.declared.Caps.{Caps}
+use Rattle.dsa_regs.specs.{declared.Caps.{Caps}, Caps.{each_of}}
 use Rattle.dsa_book.specs.declared.event.{Event.{Event}, Step.{Step}, Actor.{Actor, TheVariants.{Client, Engine}}}
 use Rattle.dsa_book.specs.declared.answer.Reply.{Reply}
 use Rattle.dsa_book.specs.Machine.{history_after}
@@ -45,13 +45,4 @@ receipts_of seat = seat.receipts
 
 -- no capabilities
 abbrev pub no_caps : Caps
-no_caps = record {
-  queues = 0;
-  groups = 0;
-  engines = 0;
-  total_size = 0;
-  read_buffers = 0;
-  slots = 0;
-  max_batch_shift = 0;
-  max_xfer_shift = 0;
-}
+no_caps = each_of 0

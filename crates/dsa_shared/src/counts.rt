@@ -2,20 +2,20 @@
 
 ghost use Rattle.std.specs.Prelude.{◌≡◌, ◌+◌, ◌<◌, ◌≤◌, ◌^◌, cond, length};
 ghost use Rattle.dsa_book.specs.declared.answer.Reply.TheVariants as reply;
-ghost use Rattle.dsa_book.specs.Totals.{is_accepted, is_retried, is_fetched, is_done, lost_by, total_accepted, total_retried, total_fetched, total_done, total_lost};
+ghost use Rattle.dsa_book.specs.Totals.{is_accepted, is_retried, is_fetched, is_done, lost_by, total_lost};
 
 use crate::settle::Totals;
 use dsa_book::{
     Cause, FetchAnswer, FinishAnswer, IssueAnswer, Reply, StartAnswer, Step, SubmitAnswer,
 };
 
-fn is_accepted(step: &Step) -> bool
+pub fn is_accepted(step: &Step) -> bool
     ensures { result ≡ is_accepted step.now.reply }
 {
     matches!(step.reply, Reply::Submit(SubmitAnswer::Accepted(_)))
 }
 
-fn is_retried(step: &Step) -> bool
+pub fn is_retried(step: &Step) -> bool
     ensures { result ≡ is_retried step.now.reply }
 {
     matches!(
@@ -24,13 +24,13 @@ fn is_retried(step: &Step) -> bool
     )
 }
 
-fn is_fetched(step: &Step) -> bool
+pub fn is_fetched(step: &Step) -> bool
     ensures { result ≡ is_fetched step.now.reply }
 {
     matches!(step.reply, Reply::Fetch(FetchAnswer::Fetched(_)))
 }
 
-fn is_done(step: &Step) -> bool
+pub fn is_done(step: &Step) -> bool
     ensures { result ≡ is_done step.now.reply }
 {
     matches!(step.reply, Reply::Finish(FinishAnswer::Done(_)))
@@ -44,30 +44,6 @@ fn lost_by(step: &Step) -> u32
         Reply::Issue(IssueAnswer::Ended { aborted }) => aborted,
         _ => 0,
     }
-}
-
-pub fn accepted_in(steps: &[Step]) -> u64
-    ensures { result ≡ total_accepted steps.now }
-{
-    steps.iter().filter(|step| is_accepted(step)).count() as u64
-}
-
-pub fn retried_in(steps: &[Step]) -> u64
-    ensures { result ≡ total_retried steps.now }
-{
-    steps.iter().filter(|step| is_retried(step)).count() as u64
-}
-
-pub fn fetched_in(steps: &[Step]) -> u64
-    ensures { result ≡ total_fetched steps.now }
-{
-    steps.iter().filter(|step| is_fetched(step)).count() as u64
-}
-
-pub fn done_in(steps: &[Step]) -> u64
-    ensures { result ≡ total_done steps.now }
-{
-    steps.iter().filter(|step| is_done(step)).count() as u64
 }
 
 pub fn lost_in(steps: &[Step]) -> u64

@@ -8,7 +8,7 @@ ghost use Rattle.dsa_book.specs.Totals.{total_accepted, total_retried, total_fet
 ghost use Rattle.dsa_shared.specs.Seat.{number_of_seat, receipts_of};
 
 use crate::blanks::Sharing;
-use crate::counts::{accepted_in, done_in, fetched_in, lost_in, retried_in};
+use crate::counts::{is_accepted, is_done, is_fetched, is_retried, lost_in};
 use crate::receipts::Receipts;
 use dsa_book::{Actor, Step};
 use std::alloc::{Allocator, Global};
@@ -136,14 +136,16 @@ impl<L: Sharing, A: Allocator> NumberedSeat<ClientRole, L, A> {
     pub fn accepted(&self) -> u64
         ensures { result ≡ total_accepted self.now.receipts }
     {
-        accepted_in(self.receipts.steps())
+        let steps = self.receipts.steps();
+        steps.iter().filter(|step| is_accepted(step)).count() as u64
     }
 
     /// How many of its submissions were turned away for want of room, to come again.
     pub fn retried(&self) -> u64
         ensures { result ≡ total_retried self.now.receipts }
     {
-        retried_in(self.receipts.steps())
+        let steps = self.receipts.steps();
+        steps.iter().filter(|step| is_retried(step)).count() as u64
     }
 }
 
@@ -152,14 +154,16 @@ impl<L: Sharing, A: Allocator> NumberedSeat<EngineRole, L, A> {
     pub fn fetched(&self) -> u64
         ensures { result ≡ total_fetched self.now.receipts }
     {
-        fetched_in(self.receipts.steps())
+        let steps = self.receipts.steps();
+        steps.iter().filter(|step| is_fetched(step)).count() as u64
     }
 
     /// How many entries it ended.
     pub fn done(&self) -> u64
         ensures { result ≡ total_done self.now.receipts }
     {
-        done_in(self.receipts.steps())
+        let steps = self.receipts.steps();
+        steps.iter().filter(|step| is_done(step)).count() as u64
     }
 
     /// How many members it abandoned.

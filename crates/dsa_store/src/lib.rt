@@ -10,4 +10,4 @@ mod walk;
 pub use entry::{Cell, Entry, ListId};
 pub use plain::PlainStore;
 pub use store::{EntryStore, cells_stand_once};
-pub use walk::{Walk, front_entry, held_entries};
+pub use walk::{Walk, entries_from, front_entry, held_entries};

@@ -1,8 +1,9 @@
 //! Reads of a list by its cells.
 
-ghost use Rattle.std.specs.Prelude.{◌≡◌, ℕ, ◌<◌, length, slice_get};
+ghost use Rattle.std.specs.Prelude.{◌≡◌, ℕ, ◌<◌, length, slice_get, Some};
 ghost use Rattle.std.specs.Iterator.{YieldsFirst, item_count};
 ghost use Rattle.dsa_store.specs.Content.{chain};
+ghost use Rattle.dsa_store.specs.Walk.{entries_from};
 
 use crate::entry::{Cell, Entry, ListId};
 use crate::store::EntryStore;
@@ -60,5 +61,16 @@ pub fn held_entries<S: EntryStore>(store: &S, list: ListId) -> Walk<'_, S>
     Walk {
         store,
         at: store.front(list),
+    }
+}
+
+/// The cells of a list from that one on, each with its entry; none if the cell is not in use. Two
+/// reads of the store for each cell.
+pub fn entries_from<S: EntryStore>(store: &S, cell: Cell) -> Walk<'_, S>
+    ensures { result ≡ entries_from (S.content store.now) (Some cell) }
+{
+    Walk {
+        store,
+        at: Some(cell),
     }
 }

@@ -7,12 +7,10 @@ ghost use Rattle.dsa_trace.specs.Run.{IsTrace, IsTraceOf};
 use crate::form::Trace;
 use crate::held::add_held;
 use crate::lines::add_step;
-use dsa_book::Event;
 use dsa_device::Device;
-use dsa_regs::Fault;
-use dsa_scenario::{Record, Render, RenderSteps, Rendering, ScenarioFault, render_steps};
+use dsa_scenario::{Added, Asked, MadeText, Render, RenderSteps, Rendered, StepMade, render_steps};
 use dsa_store::EntryStore;
-use std::alloc::{AllocError, Global};
+use std::alloc::Global;
 
 impl RenderSteps for Trace {
     type Page = String;
@@ -29,33 +27,15 @@ impl RenderSteps for Trace {
     }
 
     #[inline(always)]
-    fn look<S: EntryStore>(
-        &self,
-        alloc: Global,
-        _device: &Device<S>,
-        _asked: &Result<Event, Fault>,
-    ) -> Result<String, AllocError> {
+    fn look<S: EntryStore>(&self, alloc: Global, _device: &Device<S>, _asked: &Asked) -> MadeText {
         Ok(String::new(alloc))
     }
 
-    fn add_step<S: EntryStore>(
-        &self,
-        _alloc: Global,
-        page: &mut String,
-        number: usize,
-        _told: &str,
-        entry: &Record,
-        device: &Device<S>,
-    ) -> Result<(), AllocError> {
-        add_step(page, *self, number, entry, device)
+    fn add_step<S: EntryStore>(&self, page: &mut String, step: &StepMade<'_, S>) -> Added {
+        add_step(page, *self, step.number, step.entry, step.device)
     }
 
-    fn finish<S: EntryStore>(
-        &self,
-        _alloc: Global,
-        page: String,
-        device: &Device<S>,
-    ) -> Result<String, AllocError> {
+    fn finish<S: EntryStore>(&self, _alloc: Global, page: String, device: &Device<S>) -> MadeText {
         let mut text = page;
         add_held(&mut text, *self, device)?;
         Ok(text)
@@ -65,7 +45,7 @@ impl RenderSteps for Trace {
 impl Render for Trace {
     ghost is_rendering = { λ form bytes fault text. (fault ≡ None) × IsTrace form bytes text };
 
-    fn render(&self, alloc: Global, bytes: &[u8]) -> Result<Rendering, ScenarioFault> {
+    fn render(&self, alloc: Global, bytes: &[u8]) -> Rendered {
         render_steps(alloc, self, bytes)
     }
 }

@@ -1,6 +1,6 @@
 //! Commands: drains, aborts, resets, disables, and why commands and writes are refused.
 
-ghost use Rattle.std.specs.Prelude.{◌≡◌, [], ◌∷◌, Some, None, true, false};
+ghost use Rattle.std.specs.Prelude.{◌≡◌, [], ◌∷◌, Some, None, true, false, map};
 ghost use Rattle.dsa_regs.specs.declared.Command.TheVariants.{EnableWq, DisableDevice, DrainWq, DrainPasid, AbortPasid, DisableWq};
 ghost use Rattle.dsa_regs.specs.declared.Fault.TheVariants.{SizesTooLarge, TwoGroups, ReservedTooMany, AllowedOutOfRange, GroupWithoutEngine, GroupWithoutQueue, BadIndex, SizeZero};
 ghost use Rattle.dsa_book.specs.declared.answer.DispatchAnswer.TheVariants.{Idle};
@@ -79,10 +79,9 @@ pub fn old_ticket_is_gone()
     ensures run { is_run_here old_ticket_is_gone ≡ true }
     ensures fates { fates_after old_ticket_is_gone
         ≡ Some (row 0 None (Aborted 4) ∷ completed 1 0x01 ∷ []) }
-    ensures the_cell_alone_is_no_ticket { wrong_after 5 old_ticket_is_gone (ended 0 0 0 0x01)
-        ≡ true }
-    ensures its_own_ticket_is_not_gone { wrong_after 5 old_ticket_is_gone
-        (finished 0 (ticket 0 1) Gone) ≡ true }
+    ensures its_own_ticket_ends_it { map (wrong_after 5 old_ticket_is_gone)
+        (ended 0 0 0 0x01 ∷ finished 0 (ticket 0 1) Gone ∷ [])
+        ≡ true ∷ true ∷ [] }
 {}
 
 /// An abort of two queues, and a reset of the device, which is off then.

@@ -1,7 +1,7 @@
 //! The Drain operation: what a Drain waits for, what it does not wait for, and one at a time on an
 //! engine.
 
-ghost use Rattle.std.specs.Prelude.{◌≡◌, ◌++◌, [], ◌∷◌, Some, None, true, false, take};
+ghost use Rattle.std.specs.Prelude.{◌≡◌, ◌++◌, [], ◌∷◌, Some, None, true, false, map, take};
 ghost use Rattle.dsa_book.specs.declared.answer.DispatchAnswer.TheVariants.{Idle};
 ghost use Rattle.dsa_book.specs.declared.answer.FinishAnswer.TheVariants.{Done, NotReady, Gone};
 ghost use Rattle.dsa_book.specs.Machine.{is_run};
@@ -16,12 +16,12 @@ pub fn drains_of_two_pasids()
     ensures run { is_run_here drains_of_two_pasids ≡ true }
     ensures fates { fates_after drains_of_two_pasids
         ≡ Some (completed 1 0x01 ∷ completed 0 0x01 ∷ completed 2 0x01 ∷ completed 3 0x01 ∷ []) }
-    ensures not_at_once { wrong_after 8 drains_of_two_pasids (ended 0 2 2 0x01) ≡ true }
-    ensures not_gone { wrong_after 8 drains_of_two_pasids (finished 0 (ticket 2 2) Gone) ≡ true }
-    ensures no_longer_than_that { wrong_after 11 drains_of_two_pasids
-        (finished 0 (ticket 2 2) NotReady) ≡ true }
-    ensures no_fault_of_its_own { wrong_after 11 drains_of_two_pasids
-        (faulted 0 (ticket 2 2) (Done 0x03)) ≡ true }
+    ensures not_at_once { map (wrong_after 8 drains_of_two_pasids)
+        (ended 0 2 2 0x01 ∷ finished 0 (ticket 2 2) Gone ∷ [])
+        ≡ true ∷ true ∷ [] }
+    ensures no_longer_than_that { map (wrong_after 11 drains_of_two_pasids)
+        (finished 0 (ticket 2 2) NotReady ∷ faulted 0 (ticket 2 2) (Done 0x03) ∷ [])
+        ≡ true ∷ true ∷ [] }
     ensures no_second_drain { wrong_after 11 drains_of_two_pasids (step_of_a_take 0 3 3) ≡ true }
     ensures the_second_is_taken_then { wrong_after 13 drains_of_two_pasids (dispatched 0 Idle)
         ≡ true }

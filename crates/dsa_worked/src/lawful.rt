@@ -8,7 +8,7 @@ ghost use Rattle.dsa_book.specs.declared.fate.Fate.TheVariants.{Completed};
 ghost use Rattle.dsa_book.specs.State.{opening_setup};
 ghost use Rattle.dsa_laws.specs.Buffering.{HasBuffers};
 ghost use Rattle.dsa_laws.specs.Engines.{IsNoteOf, IsAlike, IsWithoutBatch, IsOnBatch, HasLawfulEngines};
-ghost use Rattle.dsa_laws.specs.WellFormed.{HasShape, CellsOnce, NamesOnce, HasLawfulSetup, IsPlaced, NoneOff, PasidsFit, HasLawfulEntries, IsWithinLimits, IsWithinBatch, MembersInOrder, IsWellFormed, none_runs, runs_first};
+ghost use Rattle.dsa_laws.specs.WellFormed.{HasShape, CellsOnce, NamesOnce, HasLawfulSetup, IsPlaced, NoneOff, PasidsFit, HasLawfulEntries, IsWithinLimits, IsWithinBatch, MembersInOrder, IsWellFormed, QueuesInOrder, none_runs, runs_first};
 ghost use Rattle.dsa_worked.specs.Setup.{no_op, batch, row, held_entry};
 ghost use Rattle.dsa_worked.specs.Uneven.{many_engines, small_queue};
 ghost use Rattle.dsa_worked.specs.Lawful.{unlike, that_waits, that_runs, a_member_of_three, batch_three, member_of_three, note_of_three, work_of, work_with_lists, four_buffers, work_with_buffers, set_up_in, new_work, state_of, work_on_batch, work_of_three, one_engine_on, state_in_use, in_queue, note_of_nought, state_of_two, long_transfers, one_engine_of_long};
@@ -103,9 +103,9 @@ pub fn entries()
 /// Two places in the queue, four slots and eight members are all used, and no more may be.
 pub fn limits()
     ensures full { IsWithinLimits unlike (work_with_lists 2 4 8) }
-    ensures queue { ¬ IsWithinLimits unlike (work_with_lists 3 4 8) }
-    ensures slots { ¬ IsWithinLimits unlike (work_with_lists 2 5 8) }
-    ensures members { ¬ IsWithinLimits unlike (work_with_lists 2 4 9) }
+    ensures no_more { (¬ IsWithinLimits unlike (work_with_lists 3 4 8))
+        × (¬ IsWithinLimits unlike (work_with_lists 2 5 8))
+        × (¬ IsWithinLimits unlike (work_with_lists 2 4 9)) }
     ensures note { IsWithinBatch unlike
         (record { batch = 7; count = 8; fetched = 8; failed = false; closed = false }) }
     ensures note_of_none { IsWithinBatch unlike
@@ -168,11 +168,22 @@ pub fn members_in_order()
         (work_on_batch None [] (member_of_three false ∷ member_of_three true ∷ [])) }
 {}
 
+/// Names rise along a queue, whatever comes in other lists.
+pub fn queues_in_order()
+    ensures none { QueuesInOrder unlike (work_of (opening_setup unlike) []) }
+    ensures rising { QueuesInOrder unlike (work_of (opening_setup unlike)
+        ((in_queue 0 4 ∷ in_queue 1 7 ∷ []) ∷ (in_queue 2 3 ∷ in_queue 3 1 ∷ []) ∷ [])) }
+    ensures falling { ¬ QueuesInOrder unlike (work_of (opening_setup unlike)
+        ((in_queue 0 4 ∷ in_queue 1 7 ∷ in_queue 2 5 ∷ []) ∷ [])) }
+    ensures twice { ¬ QueuesInOrder unlike (work_of (opening_setup unlike)
+        ((in_queue 0 4 ∷ in_queue 1 4 ∷ []) ∷ [])) }
+{}
+
 /// A state that breaks one of these alone is not well formed: it has no notes, a cell twice, a name
 /// that nothing has, a queue that is On while the device is not, an entry that runs in the queue, a
-/// queue with more than it has places, members that take more read buffers than their group may
-/// have, a note of no batch, more fetched than the batch has, and a member that runs after one that
-/// waits.
+/// younger entry before an older one in the queue, a queue with more than it has places, members
+/// that take more read buffers than their group may have, a note of no batch, more fetched than the
+/// batch has, and a member that runs after one that waits.
 pub fn states_not_well_formed()
     ensures shape { ¬ IsWellFormed unlike (state_of (record new_work { notes = [] })) }
     ensures cells { ¬ IsWellFormed many_engines
@@ -183,6 +194,8 @@ pub fn states_not_well_formed()
         (state_in_use (set_up_in Off On small_queue 1) 0 None [] [] []) }
     ensures entries { ¬ IsWellFormed many_engines
         (state_in_use one_engine_on 1 None (held_entry 0 0 None no_op 0 true ∷ []) [] []) }
+    ensures rising { ¬ IsWellFormed many_engines
+        (state_in_use one_engine_on 2 None (in_queue 0 1 ∷ in_queue 1 0 ∷ []) [] []) }
     ensures limits { ¬ IsWellFormed many_engines
         (state_in_use one_engine_on 3 None (in_queue 0 0 ∷ in_queue 1 1 ∷ in_queue 2 2 ∷ [])
         [] []) }

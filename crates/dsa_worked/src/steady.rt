@@ -16,7 +16,8 @@ ghost use Rattle.dsa_store.specs.Content.{HeldEntry, IsSound};
 ghost use Rattle.dsa_store.specs.Plain.{AllRoomy, IsEachCellOnce};
 ghost use Rattle.dsa_book.specs.State.{opening_setup};
 ghost use Rattle.dsa_accounts.specs.FreeCells.{HasFreeCell};
-ghost use Rattle.dsa_engines.specs.Engines.{engines_at_first, Holds, IsInPlace, IsInStep, IsOpen, WaitInOrder};
+ghost use Rattle.dsa_laws.specs.WellFormed.{QueuesInOrder};
+ghost use Rattle.dsa_engines.specs.Engines.{engines_at_first, Holds, IsInPlace, IsInStep, IsOpen, NamesRise, WaitInOrder};
 ghost use Rattle.dsa_admin.specs.Admin.{IsAwaiting, IsUnrefused};
 ghost use Rattle.dsa_worked.specs.Setup.{no_op, held_entry, masked};
 ghost use Rattle.dsa_worked.specs.Uneven.{many_engines, small_queue, of_these};
@@ -110,16 +111,24 @@ pub fn open_engines()
         (record { total = 6; groups = with_buffers 9 1 3 ∷ []; used = 3 ∷ [] }) }
     ensures all_wait { WaitInOrder (that_waits ∷ that_waits ∷ []) }
     ensures all_run { WaitInOrder (that_runs ∷ that_runs ∷ []) }
+    ensures one_runs { WaitInOrder (that_runs ∷ that_waits ∷ that_waits ∷ []) }
     ensures runs_after { ¬ WaitInOrder (that_waits ∷ that_runs ∷ []) }
+    ensures none_is_older { ¬ NamesRise (of_cell 1 ∷ of_cell 0 ∷ []) }
+    ensures runs_later { ¬ WaitInOrder (that_runs ∷ that_waits ∷ that_runs ∷ []) }
+    ensures none_twice { ¬ NamesRise (of_cell 1 ∷ of_cell 1 ∷ []) }
+    ensures one { NamesRise (of_cell 1 ∷ []) }
 {}
 
-/// What is in a queue's list names it, and what is in a list of members is one.
+/// What is in a queue's list names it, in the order of names, and what is in a list of members is
+/// one.
 pub fn lists_in_place()
     ensures placed { IsInPlace (opening_setup unlike) in_places }
     ensures queued { ¬ IsInPlace (opening_setup unlike)
         ((held_entry 0 0 None no_op 8 false ∷ []) ∷ []) }
     ensures no_member { ¬ IsInPlace (opening_setup unlike)
         ([] ∷ [] ∷ [] ∷ [] ∷ (that_runs ∷ []) ∷ []) }
+    ensures no_name_twice { ¬ QueuesInOrder unlike
+        (work_of (opening_setup unlike) ((of_cell 1 ∷ of_cell 1 ∷ []) ∷ [])) }
 {}
 
 /// What queues, engines and store keep in step.

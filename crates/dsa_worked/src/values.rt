@@ -188,16 +188,10 @@ pub fn lines_of_descriptors()
 
 /// Before anything is written all is zero, and a queue that the device does not have is Off.
 pub fn zeros()
-    ensures queue { zero_queue
-        ≡ record {
-          size = 0;
-          threshold = 0;
-          dedicated = false;
-          priority = 0;
-          pasid = 0;
-          max_batch_shift = 0;
-          max_xfer_shift = 0;
-        } }
+    ensures queue { (zero_queue.size ∷ zero_queue.threshold ∷ zero_queue.priority ∷ zero_queue.pasid
+        ∷ zero_queue.max_batch_shift ∷ zero_queue.max_xfer_shift ∷ [])
+        ≡ replicate 6 0 }
+    ensures kind { zero_queue.dedicated ≡ false }
     ensures group { zero_group ≡ record { queues = 0; engines = 0; reserved = 0; allowed = 0 } }
     ensures missing_queue { seen_after (λ w. phase_at w.setup 9) [] ≡ Some Off }
 {}

@@ -5,7 +5,7 @@ use Rattle.std.specs.Prelude.{slice_index_or}
 use Rattle.std.specs.Option.{option_map, option_map_or}
 use Rattle.dsa_desc.specs.Descriptor.{read}
 use Rattle.dsa_regs.specs.declared.{Caps.{Caps}, Command.{Command}}
-use Rattle.dsa_book.specs.declared.answer.Cause.TheVariants.{NotEnabled, WrongKind}
+use Rattle.dsa_book.specs.declared.answer.Cause.TheVariants.{AtLimit}
 use Rattle.dsa_book.specs.declared.answer.SubmitAnswer.TheVariants.{Accepted, Retry, Dropped, Full}
 use Rattle.dsa_book.specs.declared.answer.{DispatchAnswer.TheVariants.{Taken, Full}, FetchAnswer.TheVariants.{Full}}
 use Rattle.dsa_book.specs.declared.answer.StartAnswer.TheVariants.{Started, Full}
@@ -16,7 +16,7 @@ use Rattle.dsa_book.specs.declared.answer.Reply.{Reply}
 use Rattle.dsa_book.specs.declared.answer.Reply.TheVariants.{Submit, Dispatch, Fetch, Start, Finish, Issue, Poll}
 use Rattle.dsa_book.specs.declared.event.Event.{Event}
 use Rattle.dsa_book.specs.declared.event.Event.TheVariants.{Submit, Dispatch, Fetch, Start, Finish, Issue, Poll}
-use Rattle.dsa_book.specs.{declared.event.Step.{Step}, Machine.{stored_steps}}
+use Rattle.dsa_book.specs.{declared.event.Step.{Step}, Machine.{stored_steps}, Same.{same_cause}}
 use Rattle.dsa_shared.specs.{Seat.{SeatLog, with_receipt}, Locked.{IsAnsweredFor}}
 use Rattle.dsa_workers.specs.declared.scripts.{ClientStep.{ClientStep}, EngineScript.{EngineScript}}
 
@@ -39,8 +39,7 @@ is_history_full _ = false
 abbrev pub goes_on : Reply → Bool
 goes_on (Submit (Accepted ticket)) = true
 goes_on (Submit (Dropped cause)) = true
-goes_on (Submit (Retry NotEnabled)) = true
-goes_on (Submit (Retry WrongKind)) = true
+goes_on (Submit (Retry cause)) = not (same_cause cause AtLimit)
 goes_on (Issue (Ended aborted)) = true
 goes_on (Issue (Refused fault)) = true
 goes_on (Poll Finished) = true

@@ -14,6 +14,7 @@ use dsa_shared::{AdminSeat, Sharing};
 use dsa_store::EntryStore;
 use std::alloc::Allocator;
 use std::sync::Wait;
+use std::thread;
 
 impl<S: EntryStore, L: Sharing, G: Gate> Run<'_, S, L, G> {
     // Issues a command, or asks after the one that was issued and waits.
@@ -59,6 +60,8 @@ impl<S: EntryStore, L: Sharing, G: Gate> Run<'_, S, L, G> {
             waits = !goes_on(&reply);
             if goes_on(&reply) {
                 at += 1;
+            } else {
+                thread::yield_now();
             }
         }
         if at >= script.len() {

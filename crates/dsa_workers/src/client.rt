@@ -33,7 +33,7 @@ impl<S: EntryStore, L: Sharing, G: Gate> Run<'_, S, L, G> {
     }
 
     // Submits the script's steps one after the other. A step that was turned away for want of room
-    // comes again.
+    // comes again, once other threads may have run.
     fn submit_all<R: Wait>(
         &self,
         rt: &R,
@@ -55,6 +55,8 @@ impl<S: EntryStore, L: Sharing, G: Gate> Run<'_, S, L, G> {
             }
             if goes_on(&reply) {
                 at += 1;
+            } else {
+                thread::yield_now();
             }
         }
         if at >= script.len() {

@@ -45,10 +45,7 @@ impl<S: EntryStore> Device<S> {
         ensures { result
             ≡ when (nat_lt queue self.now.caps.queues) (phase_at self.now.state.work.setup queue) }
     {
-        if queue >= self.caps.queues {
-            return None;
-        }
-        Some(self.queues.phase(queue))
+        (queue < self.caps.queues).then_some(self.queues.phase(queue))
     }
 
     /// The configuration of the queue. `None` exactly when the device has no such queue.
@@ -57,10 +54,7 @@ impl<S: EntryStore> Device<S> {
             ≡ when (nat_lt queue self.now.caps.queues)
             (queue_at self.now.state.work.setup.configs queue) }
     {
-        if queue >= self.caps.queues {
-            return None;
-        }
-        Some(self.queues.queue(queue))
+        (queue < self.caps.queues).then_some(self.queues.queue(queue))
     }
 
     /// The configurations of all queues, by number.
@@ -83,10 +77,7 @@ impl<S: EntryStore> Device<S> {
             ≡ when (nat_lt group self.now.caps.groups)
             (group_at self.now.state.work.setup.groups group) }
     {
-        if group >= self.caps.groups {
-            return None;
-        }
-        Some(self.queues.group(group))
+        (group < self.caps.groups).then_some(self.queues.group(group))
     }
 
     /// The number of entries that wait in the queue; those that engines have taken are not counted

@@ -4,7 +4,7 @@ ghost use Rattle.std.specs.Prelude.{◌≡◌, ◌<◌, ◌==◌, not, length};
 ghost use Rattle.dsa_store.specs.Content.{Content, chain, held_count};
 ghost use Rattle.dsa_book.specs.State.{any_in, is_member};
 ghost use Rattle.dsa_queues.specs.Queues.{IsCounted, IsStoreFor};
-ghost use Rattle.dsa_engines.specs.Engines.{IsInPlace};
+ghost use Rattle.dsa_engines.specs.Engines.{IsInPlace, QueuesRise};
 ghost use Rattle.dsa_tests.specs.Parts.{Agree};
 
 use crate::layers::setup::{book, enabled, store};
@@ -111,6 +111,17 @@ fn see_places<S: EntryStore>(rt: &impl Abort, queues: &Queues, store: &S)
     assert!(rt; !has_submitted(store, ListId(5)));
 }
 
+// Each queue holds one entry at most, and so is in order.
+fn see_order<S: EntryStore>(rt: &impl Abort, queues: &Queues, store: &S)
+    requires { IsStoreFor queues.now.setup.caps (S.cells store.now) (S.content store.now) }
+    ensures { QueuesRise queues.now.setup (S.content store.now) }
+{
+    let caps = queues.caps();
+    assert!(rt; caps.queues == 2);
+    assert!(rt; store.len(ListId(0)) <= 1);
+    assert!(rt; store.len(ListId(1)) <= 1);
+}
+
 // Ends the entry of the ticket, whose work went so.
 fn end<S: EntryStore>(
     rt: &impl Abort,
@@ -125,6 +136,7 @@ fn end<S: EntryStore>(
     ensures { Agree queues.new engines.new (S.cells store.new) (S.content store.new) }
 {
     see_places(rt, queues, store);
+    see_order(rt, queues, store);
     assert!(rt; book.fates().len() < book.capacity());
     engines.finish(queues, store, book, 0, ticket, outcome)
 }

@@ -4,27 +4,13 @@ use Rattle.dsa_store.specs.Content.{place_count, use_count}
 
 pub returns-clause-used : goal.returns-clause-used
 unfolding use_count place_count
-returns-clause-used c = record {
-  inside = lit≤ tt;
-  same = refl;
-  listed = lit≤ tt;
-  used = lit≤ tt;
-  list = refl;
-  entry = refl;
-  next = refl;
-}
+returns-clause-used c =
+    record { inside = lit≤ tt; same = refl; listed = lit≤ tt; used = lit≤ tt; list = refl; entry = refl; next = refl }
 
 pub returns-clause-last : goal.returns-clause-last
 unfolding use_count place_count
-returns-clause-last c = record {
-  inside = lit≤ tt;
-  same = refl;
-  listed = lit≤ tt;
-  used = lit≤ tt;
-  list = refl;
-  entry = refl;
-  next = refl;
-}
+returns-clause-last c =
+    record { inside = lit≤ tt; same = refl; listed = lit≤ tt; used = lit≤ tt; list = refl; entry = refl; next = refl }
 
 pub returns-clause-beyond : goal.returns-clause-beyond
 returns-clause-beyond c is = omega (arith, is.inside)
@@ -37,14 +23,8 @@ returns-clause-free c is = omega (arith, is.listed)
 
 pub returns-clause-unused : goal.returns-clause-unused
 unfolding use_count place_count
-returns-clause-unused c = record {
-  none = refl;
-  list = refl;
-  entry = refl;
-  next = refl;
-  unlinked = refl;
-  replaced = λ entry. refl;
-}
+returns-clause-unused c =
+    record { none = refl; list = refl; entry = refl; next = refl; unlinked = refl; replaced = λ entry. refl }
 
 pub returns-clause-not_unused : goal.returns-clause-not_unused
 unfolding use_count place_count

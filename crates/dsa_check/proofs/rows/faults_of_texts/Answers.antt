@@ -2,11 +2,12 @@ use Rattle.dsa_check.proofs.rows.faults_of_texts.Goals as goal
 use Rattle.std.proofs.Common.{◌≡◌, ◌⊎◌, ◌∙◌, ◌==◌, ◌++◌, ◌||◌, ℕ, Bool, false, true, List, [], ◌∷◌, Some, codes, refl, ap, lit≤}
 use Rattle.std.proofs.{Common.{inl, inr, flat_map}, lemmas.List.Folds.{list_any-append}}
 use Rattle.std.specs.List.{list_any}
-use Rattle.std.specs.{Prelude.{IsUtf8}, Option.{option_map_or}}
-use Rattle.serde_json.{specs.{Data.{Data, Items}, Read.{read}}, proofs.OnLiterals.{serde_json_on_literals}}
-use Rattle.dsa_regs.specs.{declared.Caps.{Caps}, Caps.{check_caps}}
+use Rattle.std.specs.Prelude.{IsUtf8}
+use Rattle.serde_json.{specs.{Data.{Data}, Read.{read}}, proofs.OnLiterals.{serde_json_on_literals}}
+use Rattle.dsa_regs.specs.Caps.{check_caps}
 use Rattle.dsa_scenario.specs.declared.faults.ScenarioFault.{ScenarioFault, TheVariants.{BadCaps, BadCapacity}}
-use Rattle.dsa_scenario.specs.{Document.{head_of}, Worked.{no_caps_text, smallest_caps, document_text}}
+use Rattle.dsa_scenario.specs.Worked.{no_caps_text, smallest_caps, document_text}
+use Rattle.dsa_scenario.proofs.Heads.{document_by, same_caps, same_head}
 use Rattle.dsa_check.specs.declared.finding.{Finding.{Finding}, Reason.{Reason}}
 use Rattle.dsa_check.specs.Lines.{reason_text, fault_part_text, known_number_text, place_text, line_of_finding}
 use Rattle.dsa_check.specs.Lines.{lines_of_finding, finding_text, report_text}
@@ -24,17 +25,6 @@ of_read bytes faults d e (inr h) =
     let value = h.1.value in
     let same : h.0 ≡ d = cc in
     inr (h.2 ∙ ap faults_of_value same)
-
--- the head of what a right document is read as
-abbrev Head : Type 0
-Head = Caps × ℕ × Items
-
-head_is : (bytes : List ℕ) (d : Data) → read bytes ≡ Some d → (is : IsRight bytes)
-    → head_of d ≡ Some (is.caps, is.capacity, is.document.head.items)
-head_is bytes d e is =
-    let value = is.document.head.json.value in
-    let same : d ≡ is.document.head.document = cc in
-    ap head_of same ∙ is.document.head.head
 
 pub returns-clause-untold : goal.returns-clause-untold
 unfolding serde_json_on_literals
@@ -72,17 +62,7 @@ right_is_right = record {
   caps = smallest_caps;
   capacity = _;
   actions = [];
-  document = record {
-    steps = [];
-    head = record {
-      document = _;
-      items = _;
-      json = record { utf8 = (right_text, (refl, refl)); value = refl };
-      head = refl;
-      listed = refl;
-    };
-    asked = refl;
-  };
+  document = document_by right_text _ smallest_caps _ _ [] (right_text, (refl, refl)) refl refl refl;
   opening = record { good = refl; small = lit≤ tt };
 }
 
@@ -92,14 +72,14 @@ returns-clause-right c = right_is_right
 pub returns-clause-no_document : goal.returns-clause-no_document
 unfolding serde_json_on_literals
 returns-clause-no_document c is =
-    let head = head_is (codes "{}") _ refl is in
+    let head = same_head (codes "{}") _ _ _ _ refl is.document.head in
     absurd cc
 
 pub returns-clause-no_device : goal.returns-clause-no_device
 unfolding serde_json_on_literals
 returns-clause-no_device c is =
-    let head = head_is (document_text no_caps_text (codes "9") []) _ refl is in
-    let bad : false ≡ true = ap (λ o. option_map_or (λ (h : Head). check_caps h.0) o true) head ∙ is.opening.good in
+    let text = document_text no_caps_text (codes "9") [] in
+    let bad : false ≡ true = ap check_caps (same_caps text _ _ _ _ refl is.document.head) ∙ is.opening.good in
     absurd cc
 
 pub returns-clause-report : goal.returns-clause-report

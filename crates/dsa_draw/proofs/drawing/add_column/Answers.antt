@@ -6,5 +6,12 @@ pub returns : goal.returns
 returns c =
     on_ok_weaker c.write.result
     (λ added. added
-    ∙ rw (c.in_ok-add_title.ensures, c.in_ok-add_high.ensures, c.in_ok-add_left.ensures) (simp append_assoc))
+    ∙ rw (
+      c.in_ok-add_title.ensures,
+      c.in_ok-push_str.ensures.bytes,
+      c.in_ok-add_rect.ensures,
+      c.from.ensures,
+      c.from-2.ensures,
+      c.saturating_sub-high.ensures,
+    ) (simp append_assoc))
     c.write.ensures.bytes

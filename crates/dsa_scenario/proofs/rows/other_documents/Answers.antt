@@ -1,21 +1,20 @@
 use Rattle.dsa_scenario.proofs.rows.other_documents.Goals as goal
-use Rattle.std.proofs.Common.{◌≡◌, ◌∙◌, ℕ, true, false, List, [], ◌∷◌, Option, Some, None, IsUtf8, ap, append-nil}
+use Rattle.std.proofs.Common.{◌≡◌, ◌∙◌, ℕ, true, false, List, [], ◌∷◌, Some, None, IsUtf8, ap, append-nil}
 use Rattle.std.proofs.Common.{arith, codes, length, length-append, lit<, lit≤, map, refl, subst, sym, take}
 use Rattle.std.proofs.lemmas.Str.{is_utf8-from_IsUtf8}
 use Rattle.std.specs.{Option.{option_map_or}, Str.{chars, is_utf8}}
 use lib.Utf8.{encode}
 use Rattle.serde_json.proofs.OnLiterals.{serde_json_on_literals}
-use Rattle.serde_json.specs.{Data.{Data, Items, array, no_items}, Read.{read}}
+use Rattle.serde_json.specs.{Data.{Data, array, no_items}, Read.{read}}
 use Rattle.dsa_regs.specs.declared.Caps.{Caps}
 use Rattle.dsa_book.specs.{Machine.{replay, stored_steps}, State.{State}}
-use Rattle.dsa_book.specs.declared.answer.PollAnswer.TheVariants.{Nothing}
-use Rattle.dsa_book.specs.declared.answer.Reply.TheVariants as reply
 use Rattle.dsa_book.specs.declared.event.Event.TheVariants as event
 use Rattle.dsa_scenario.specs.declared.{actions.Action.{Action, TheVariants.{Ask}}, run.Record.{Record}}
 use Rattle.dsa_scenario.specs.Document.{HasHead, HasNoHead, IsDocument, head_of, list_of_items}
 use Rattle.dsa_scenario.specs.{Lines.{lines_of_run}, Run.{AreOf, steps_of_records}}
 use Rattle.dsa_scenario.specs.Scenario.{IsRenderingOf}
-use Rattle.dsa_scenario.specs.Worked.{object_of, poll_text, smallest_caps, stepless_text, stepped, whole}
+use Rattle.dsa_scenario.specs.Worked.{object_of, poll_text, polled, smallest_caps, stepless_text, whole}
+use Rattle.dsa_scenario.proofs.Heads.{Head, document_by, same_head}
 
 -- ---- texts that are no JSON, or of another value
 
@@ -45,19 +44,6 @@ returns-clause-another_value c is =
 
 -- ---- heads
 
--- what is read of a document
-abbrev Head : Type 0
-Head = Caps × ℕ × Items
-
--- the head of a text is that of what it reads as
-same_head : (text : List ℕ) (d : Data) (head : Option Head) (caps : Caps) (capacity : ℕ) (steps : List Data)
-    → read text ≡ Some d → head_of d ≡ head → (has : HasHead text caps capacity steps)
-    → head ≡ Some (caps, capacity, has.items)
-same_head text d head caps capacity steps e known has =
-    let value = has.json.value in
-    let same : d ≡ has.document = cc in
-    sym known ∙ ap head_of same ∙ has.head
-
 -- what has one is not without
 some_head : (text : List ℕ) (d : Data) (head : Head) → read text ≡ Some d → head_of d ≡ Some head → HasNoHead text → ⊥
 some_head text d head e known is =
@@ -69,7 +55,7 @@ some_head text d head e known is =
 -- a number has none
 no_keys : (caps : Caps) (capacity : ℕ) (steps : List Data) → HasHead (codes "1") caps capacity steps → ⊥
 no_keys caps capacity steps has =
-    let head = same_head (codes "1") (whole 1) None caps capacity steps one refl has in
+    let head = same_head (codes "1") (whole 1) caps capacity steps one has in
     absurd cc
 
 pub returns-clause-no_keys : goal.returns-clause-no_keys
@@ -85,14 +71,9 @@ stepless capacity =
     (codes "capacity", whole capacity) ∷ (
       codes "caps",
       object_of (
-          (codes "engines", whole 1) ∷
-          (codes "groups", whole 1) ∷
-          (codes "max_batch_shift", whole 1) ∷
-          (codes "max_xfer_shift", whole 0) ∷
-          (codes "queues", whole 1) ∷
-          (codes "read_buffers", whole 1) ∷
-          (codes "slots", whole 1) ∷
-          (codes "total_size", whole 1) ∷ []),
+          (codes "engines", whole 1) ∷ (codes "groups", whole 1) ∷ (codes "max_batch_shift", whole 1) ∷
+          (codes "max_xfer_shift", whole 0) ∷ (codes "queues", whole 1) ∷ (codes "read_buffers", whole 1) ∷
+          (codes "slots", whole 1) ∷ (codes "total_size", whole 1) ∷ []),
     ) ∷
     (codes "steps", array no_items) ∷ []
     )
@@ -110,7 +91,7 @@ of_stepless : (text : List ℕ) (n : ℕ) (caps : Caps) (capacity : ℕ) (steps 
     → HasHead text caps capacity steps → (head_of (stepless n) ≡ Some (smallest_caps, n, no_items))
     → (smallest_caps ≡ caps) × (n ≡ capacity) × ([] ≡ steps)
 of_stepless text n caps capacity steps e has known =
-    let head = same_head text (stepless n) (Some (smallest_caps, n, no_items)) caps capacity steps e known has in (
+    let head = sym known ∙ same_head text (stepless n) caps capacity steps e has in (
       ap (λ o. option_map_or (λ (h : Head). h.0) o caps) head,
       ap (λ o. option_map_or (λ (h : Head). h.1) o 0) head,
       ap (λ o. option_map_or (λ (h : Head). list_of_items h.2) o []) head ∙ has.listed,
@@ -178,26 +159,10 @@ rendering = record {
   caps = smallest_caps;
   capacity = _;
   actions = Ask event.Poll ∷ [];
-  document = record {
-    steps = _;
-    head = record {
-      document = _;
-      items = _;
-      json = record { utf8 = (poll_text, (refl, refl)); value = refl };
-      head = refl;
-      listed = refl;
-    };
-    asked = refl;
-  };
+  document = document_by poll_text _ smallest_caps _ _ (Ask event.Poll ∷ []) (poll_text, (refl, refl)) refl refl refl;
   opening = record { good = refl; small = lit≤ tt };
-  lines_of_run = record {
-    records = stepped event.Poll (reply.Poll Nothing) ∷ [];
-    last = _;
-    events = (refl, tt);
-    run = refl;
-    replayed = refl;
-    rendered = refl;
-  };
+  lines_of_run =
+      record { records = polled; last = _; events = (refl, tt); run = refl; replayed = refl; rendered = refl };
 }
 
 pub returns-clause-rendering : goal.returns-clause-rendering

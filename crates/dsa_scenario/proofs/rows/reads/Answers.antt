@@ -1,20 +1,18 @@
 use Rattle.dsa_scenario.proofs.rows.reads.Goals as goal
-use Rattle.std.proofs.Common.{◌≡◌, ◌+◌, codes, refl, ap, arith, length, length-append}
+use Rattle.std.proofs.Common.{◌≡◌, ◌+◌, Some, codes, refl, ap, arith, length, length-append}
+use Rattle.dsa_scenario.specs.Counted.{HasGiven}
 
 pub returns-clause-asked_for_a_byte : goal.returns-clause-asked_for_a_byte
-returns-clause-asked_for_a_byte c old new had left given asked =
+returns-clause-asked_for_a_byte c old new had left given =
     let before : old.reader.now ≡ codes "12" = cc in
     let after : new.reader.now ≡ codes "2" = cc in
-    (codes "1", (rw (before, after) refl, given), omega (arith, asked))
+    let gave : HasGiven Some old new (codes "1") = (rw (before, after) refl, given) in (
+      λ asked. (codes "1", gave, omega (arith, asked)),
+      λ asked. (codes "1", gave, omega (arith, asked)),
+    )
 
 pub returns-clause-asked_twice_for_it : goal.returns-clause-asked_twice_for_it
 returns-clause-asked_twice_for_it c old new given asked is = omega (arith, given, asked, is.1.1, is.2)
-
-pub returns-clause-asked_besides : goal.returns-clause-asked_besides
-returns-clause-asked_besides c old new had left given asked =
-    let before : old.reader.now ≡ codes "12" = cc in
-    let after : new.reader.now ≡ codes "2" = cc in
-    (codes "1", (rw (before, after) refl, given), omega (arith, asked))
 
 pub returns-clause-given_uncounted : goal.returns-clause-given_uncounted
 returns-clause-given_uncounted c old new given is =

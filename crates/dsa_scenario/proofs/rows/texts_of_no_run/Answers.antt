@@ -3,7 +3,7 @@ use Rattle.std.proofs.Common.{◌≡◌, ◌++◌, ◌∙◌, ◌&&◌, ℕ, Boo
 use Rattle.std.proofs.Common.{flat_map, length, length-append, refl, sym}
 use Rattle.std.specs.{Fmt.{digits}, Option.{option_map_or}}
 use Rattle.dsa_book.proofs.EqualReplies.{equal-replies}
-use Rattle.dsa_book.specs.declared.answer.PollAnswer.TheVariants.{Full, Nothing}
+use Rattle.dsa_book.specs.declared.answer.PollAnswer.TheVariants.{Full}
 use Rattle.dsa_book.specs.declared.answer.Reply.TheVariants as reply
 use Rattle.dsa_book.specs.declared.event.Event.TheVariants as event
 use Rattle.dsa_book.specs.declared.event.Step.{Step}
@@ -14,7 +14,7 @@ use Rattle.dsa_scenario.specs.declared.run.Record.{Record, TheVariants.{Stepped,
 use Rattle.dsa_scenario.specs.Lines.{line_of_text, lines_of_run, record_text, row_text}
 use Rattle.dsa_scenario.specs.Run.{AreOf, steps_of_records}
 use Rattle.dsa_scenario.specs.Steps.{line_of_step, visits}
-use Rattle.dsa_scenario.specs.Worked.{smallest_caps, stepped}
+use Rattle.dsa_scenario.specs.Worked.{polled, smallest_caps, stepped}
 
 -- a line is not empty
 no_line : (text more : List ℕ) → [] ≡ line_of_text text ++ more → ⊥
@@ -89,14 +89,8 @@ returns-clause-no_fate c is =
 
 pub returns-clause-text : goal.returns-clause-text
 unfolding digits
-returns-clause-text c = record {
-  records = stepped event.Poll (reply.Poll Nothing) ∷ [];
-  last = _;
-  of_actions = (refl, tt);
-  run = refl;
-  replayed = refl;
-  rendered = refl;
-}
+returns-clause-text c =
+    record { records = polled; last = _; of_actions = (refl, tt); run = refl; replayed = refl; rendered = refl }
 
 -- a step has a line
 some_step : (records : List Record) → AreOf [] (Ask event.Poll ∷ []) records

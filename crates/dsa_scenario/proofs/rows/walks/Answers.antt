@@ -3,33 +3,29 @@ use Rattle.std.proofs.Common.{◌≡◌, ◌==◌, ◌∙◌, Bool, true, false,
 use Rattle.std.specs.Prelude.{slice_get}
 use Rattle.dsa_book.specs.declared.answer.Ticket.{Ticket}
 use Rattle.dsa_book.specs.declared.event.Event.TheVariants.{Poll}
+use Rattle.dsa_device.specs.Running.{IsReplay, running_at_first}
 use Rattle.dsa_scenario.specs.declared.actions.Action.TheVariants.{Ask}
 use Rattle.dsa_scenario.specs.declared.run.Record.{Record}
 use Rattle.dsa_scenario.specs.Run.{AreOf, IsTable, ticket_given_by}
-use Rattle.dsa_scenario.specs.Steps.{visits}
-use Rattle.dsa_scenario.specs.Worked.{record_ticket, records_of_a_submission, smallest_caps}
+use Rattle.dsa_scenario.specs.Steps.{standing, visits}
+use Rattle.dsa_scenario.specs.Worked.{caps_of_a_run, record_ticket, records_of_a_submission, smallest_caps}
+use Rattle.dsa_scenario.proofs.Records.{goes_by}
 
 -- the table of one ticket
 table : IsTable (slice_get (record_ticket 3 0 ∷ [])) records_of_a_submission
 table zero = refl
 table (suc name) = rw (ne_eqb 0 (suc name) (λ same. absurd cc)) refl
 
+replay : IsReplay (standing caps_of_a_run 7 records_of_a_submission)
+replay = record { caps = refl; bounded = lit≤ tt; within = lit≤ tt; legal = refl; replayed = refl }
+
 pub returns-clause-walk : goal.returns-clause-walk
 returns-clause-walk c = record {
   records = records_of_a_submission;
   of_actions = (refl, (refl, (refl, (refl, (refl, (refl, tt))))));
   count = refl;
-  run = record {
-    steps = _;
-    added = refl;
-    events_are = refl;
-    allowed = refl;
-    same_caps = refl;
-    same_capacity = refl;
-    history = refl;
-    replayed = refl;
-  };
-  replay = record { caps = refl; bounded = lit≤ tt; within = lit≤ tt; legal = refl; replayed = refl };
+  run = (goes_by (running_at_first caps_of_a_run 7) _ records_of_a_submission refl (refl, refl) refl replay).run;
+  replay = replay;
   table = table;
   in_turn = refl;
   made = refl;

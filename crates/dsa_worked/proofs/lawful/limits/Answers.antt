@@ -9,14 +9,12 @@ returns-clause-full c = record {
   members = below_two _ (lit≤ tt) (lit≤ tt);
 }
 
-pub returns-clause-queue : goal.returns-clause-queue
-returns-clause-queue c is = omega (arith, is.queues 0 (lit≤ tt))
-
-pub returns-clause-slots : goal.returns-clause-slots
-returns-clause-slots c is = omega (arith, is.slots 1 (lit≤ tt))
-
-pub returns-clause-members : goal.returns-clause-members
-returns-clause-members c is = omega (arith, is.members 1 (lit≤ tt))
+pub returns-clause-no_more : goal.returns-clause-no_more
+returns-clause-no_more c = (
+  λ is. omega (arith, is.queues 0 (lit≤ tt)),
+  λ is. omega (arith, is.slots 1 (lit≤ tt)),
+  λ is. omega (arith, is.members 1 (lit≤ tt)),
+)
 
 pub returns-clause-note : goal.returns-clause-note
 returns-clause-note c = record { fetched = lit≤ tt; count = lit≤ tt }

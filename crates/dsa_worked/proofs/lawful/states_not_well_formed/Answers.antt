@@ -1,6 +1,7 @@
 use Rattle.dsa_worked.proofs.lawful.states_not_well_formed.Goals as goal
 use Rattle.std.proofs.Common.{arith, inl, lit≤, refl}
 use Rattle.dsa_store.specs.Content.{use_count, place_count}
+use Rattle.dsa_worked.specs.Lawful.{in_queue}
 
 pub returns-clause-cells : goal.returns-clause-cells
 unfolding use_count place_count
@@ -14,6 +15,9 @@ returns-clause-set_up c is = grind (arith, is.setup.on 0 refl)
 
 pub returns-clause-entries : goal.returns-clause-entries
 returns-clause-entries c is = grind (arith, (is.entries.placed 0 _ (inl refl)).waiting (lit≤ tt))
+
+pub returns-clause-rising : goal.returns-clause-rising
+returns-clause-rising c is = omega (arith, is.rising 0 (lit≤ tt) 0 1 (in_queue 0 1) (lit≤ tt) (lit≤ tt))
 
 pub returns-clause-limits : goal.returns-clause-limits
 returns-clause-limits c is = omega (arith, is.limits.queues 0 (lit≤ tt))

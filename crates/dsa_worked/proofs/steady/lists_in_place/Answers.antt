@@ -4,6 +4,7 @@ use Rattle.dsa_base.specs.Lists.{In}
 use Rattle.dsa_store.specs.Content.{HeldEntry, chain}
 use Rattle.dsa_book.specs.{State.{is_member, opening_setup}, Work.{member_list}}
 use Rattle.dsa_worked.specs.{Lawful.{unlike, that_waits, a_member_of_three}, Steady.{in_places}}
+use Rattle.dsa_worked.specs.Values.{of_cell}
 use Rattle.dsa_worked.proofs.Bounded.{in_one}
 
 queued : (q : ℕ) (pair : HeldEntry) → q < 1 → In pair (chain in_places q) → pair.1.queue ≡ q
@@ -26,3 +27,6 @@ returns-clause-queued c is = omega (arith, is.queued 0 _ (lit≤ tt) (inl refl))
 
 pub returns-clause-no_member : goal.returns-clause-no_member
 returns-clause-no_member c is = grind (arith, is.members 1 _ (lit≤ tt) (inl refl))
+
+pub returns-clause-no_name_twice : goal.returns-clause-no_name_twice
+returns-clause-no_name_twice c is = omega (arith, is 0 (lit≤ tt) 0 1 (of_cell 1) (lit≤ tt) (lit≤ tt))

@@ -38,12 +38,6 @@ pub returns-clause-some : goal.returns-clause-some
 returns-clause-some g c =
     let f = front _ c.args.self.now.whole (sym c.head.ensures ∙ c.in_ok-cell.was) in
     let u = front-unused c.args.self.now.whole c.lists.ensures f in
-    rw (
-      c.transfer.ensures.entries,
-      c.write.ensures.entries,
-      c.transfer.ensures.lists,
-      c.write.ensures.lists,
-      c.write.ensures.owner,
-      f.owner,
-      c.lists.ensures,
-    ) (content-pushed _ _ _ _ _ f.inside u c.requires)
+    let w = c.write.ensures in let t = c.transfer.ensures in
+    rw (t.entries, w.entries, t.lists, w.lists, w.owner, f.owner, c.lists.ensures)
+    (content-pushed _ _ _ _ _ f.inside u c.requires)

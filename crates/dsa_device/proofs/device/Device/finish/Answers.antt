@@ -3,7 +3,8 @@ use Rattle.dsa_book.specs.declared.answer.Reply.TheVariants as reply
 use Rattle.dsa_device.proofs.device.Device.finish.Goals as goal
 use Rattle.std.proofs.Common.{◌∙◌, refl, sym}
 use Rattle.dsa_device.proofs.Awaiting.{awaiting-end, end-counted, names-after}
-use Rattle.dsa_device.proofs.{Known.{well_formed, row_fits, in_place}, Steps.{answered, whole_after}}
+use Rattle.dsa_device.proofs.Known.{well_formed, row_fits, in_place, queues_rise}
+use Rattle.dsa_device.proofs.Steps.{answered, whole_after}
 
 pub finish-answer-requires-clause-in_step : goal.finish-answer-requires-clause-in_step
 finish-answer-requires-clause-in_step g c = c.self.invariant.whole.in_step
@@ -13,6 +14,9 @@ finish-answer-requires-clause-counted g c = c.self.invariant.counted
 
 pub finish-answer-requires-clause-placed : goal.finish-answer-requires-clause-placed
 finish-answer-requires-clause-placed g c = in_place _ c.self.invariant.whole.replay
+
+pub finish-answer-requires-clause-order : goal.finish-answer-requires-clause-order
+finish-answer-requires-clause-order g c = queues_rise _ c.self.invariant.whole.replay
 
 pub finish-answer-requires-clause-room : goal.finish-answer-requires-clause-room
 finish-answer-requires-clause-room g c =

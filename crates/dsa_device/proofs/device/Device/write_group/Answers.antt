@@ -7,8 +7,7 @@ use Rattle.dsa_device.proofs.{InStep.{write_group-keeps}, Steps.{answered}}
 
 pub returns : goal.returns
 returns g c =
-    answered _ _ _ (event.WriteGroup c.args.group c.args.config) (reply.Write c.write_group-answer.result)
-    c.self.view_is
+    answered _ _ _ (event.WriteGroup c.args.group c.args.config) (reply.Write c.write_group-answer.result) c.self.view_is
     (sym c.is_full.ensures.full ∙ c.if-is_full.false) refl (rw (c.write_group-answer.ensures.answer, c.record.ensures))
     (rw c.record.ensures)
 

@@ -8,8 +8,7 @@ use Rattle.dsa_device.proofs.Steps.{answered}
 
 pub returns : goal.returns
 returns g c =
-    answered _ _ _ (event.WriteQueue c.args.queue c.args.config) (reply.Write c.write_queue-answer.result)
-    c.self.view_is
+    answered _ _ _ (event.WriteQueue c.args.queue c.args.config) (reply.Write c.write_queue-answer.result) c.self.view_is
     (sym c.is_full.ensures.full ∙ c.if-is_full.false) refl (rw (c.write_queue-answer.ensures.answer, c.record.ensures))
     (rw c.record.ensures)
 

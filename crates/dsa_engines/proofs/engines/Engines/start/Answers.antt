@@ -59,15 +59,16 @@ returns-in-Err-Failed-clause-in_step g c =
 pub returns-clause-step : goal.returns-clause-step
 returns-clause-step g c =
     let member = c.in-Ok.ensures.member in
-    start-done c.requires.in_step (g.met.S.EntryStore.sound c.args.store.now).once member.engine refl member.waiting
-    member.fence member.failing c.in-Ok.ensures.need _ member.home (rw c.in-Ok.ensures.need member.room)
-    c.take.ensures c.set.ensures.after
+    rw c.set_last_started.ensures (start-done c.requires.in_step (g.met.S.EntryStore.sound c.args.store.now).once
+    member.engine refl member.waiting member.fence member.failing c.in-Ok.ensures.need _ member.home
+    (rw c.in-Ok.ensures.need member.room) c.take.ensures c.set.ensures.after)
 
 pub returns-clause-in_step : goal.returns-clause-in_step
 returns-clause-in_step g c =
     let member = c.in-Ok.ensures.member in
-    in_step-started c.requires.in_step (g.met.S.EntryStore.sound c.args.store.now).once member.engine refl
-    member.waiting c.set.ensures.cells member.home c.in-Ok.ensures.need c.take.ensures c.set.ensures.after
+    rw c.set_last_started.ensures (in_step-started c.requires.in_step (g.met.S.EntryStore.sound c.args.store.now).once
+    member.engine refl member.waiting c.set.ensures.cells member.home c.in-Ok.ensures.need c.take.ensures
+    c.set.ensures.after)
 
 pub returns-clause-counted : goal.returns-clause-counted
 returns-clause-counted g c =

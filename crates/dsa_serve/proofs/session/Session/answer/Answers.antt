@@ -15,20 +15,13 @@ returns-in-Fault g c =
 
 pub returns-in-Step : goal.returns-in-Step
 returns-in-Step g c =
+    let asked = rw c.in-Step.is at c.in_ok-action.ensures in
     on_ok_weaker c.step.result
-    (λ steps caps capacity requests written h. (
-      Step c.in-Step.action,
-      rw c.in-Step.is at c.in_ok-action.ensures,
-      steps caps capacity requests written h,
-    ))
-    c.step.ensures
+    (λ steps caps room rs written h. (Step c.in-Step.action, asked, steps caps room rs written h)) c.step.ensures
 
 pub returns-in-Explain : goal.returns-in-Explain
 returns-in-Explain g c =
+    let asked = rw c.in-Explain.is at c.in_ok-action.ensures in
     on_ok_weaker c.explain.result
-    (λ explains caps capacity requests written h. (
-      Explain c.in-Explain.action,
-      rw c.in-Explain.is at c.in_ok-action.ensures,
-      explains caps capacity requests written h,
-    ))
+    (λ explains caps room rs written h. (Explain c.in-Explain.action, asked, explains caps room rs written h))
     c.explain.ensures

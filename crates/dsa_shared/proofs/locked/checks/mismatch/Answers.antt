@@ -7,6 +7,7 @@ use Rattle.dsa_shared.specs.Compare.{DiffersFirstAt}
 use Rattle.dsa_shared.specs.Seat.{SeatLog, client_of, engine_of_seat, number_of_seat, receipts_of}
 use Rattle.dsa_shared.specs.Settle.{AllMatch, FirstMismatch, IsFirstMismatch, Match}
 use Rattle.std.proofs.lemmas.Grind.{common_steps}
+use Rattle.dsa_shared.proofs.locked.checks.mismatch.{Given.{Over}, Goals.{In_default-first_mismatch-2}}
 
 -- where all numbered seats match, the administrator's mismatch is the first
 admin_first : (h : List Step) (clients engines : List SeatLog) (admin : Option (List Step)) (own : List Step)
@@ -32,6 +33,17 @@ all_match h clients engines admin own None client_match engine_match is same = r
   admin_receipts = is ∙ ap Some (same.0 refl);
 }
 
+-- no numbered seat differs
+numbered_match : (g : Over) (c : In_default-first_mismatch-2 g)
+    → AllMatch client_of receipts_of c.args.history.now c.args.seats.now.clients.items
+    × AllMatch engine_of_seat receipts_of c.args.history.now c.args.seats.now.engines.items
+numbered_match g c =
+    let history = c.args.history.now in (
+      subst (AllMatch client_of receipts_of history) c.deref.ensures.value c.in_default-first_mismatch.ensures.none,
+      subst (AllMatch engine_of_seat receipts_of history) c.deref-2.ensures.value
+          c.in_default-first_mismatch-2.ensures.none,
+    )
+
 pub returns-then-all_match-clause-none : goal.returns-then-all_match-clause-none
 returns-then-all_match-clause-none g c = OnTrue_at c.if-all_match.true c.all_match.ensures
 
@@ -52,22 +64,16 @@ returns-in-Some-first_mismatch-2-clause-some g c =
 
 pub returns-clause-none : goal.returns-clause-none
 returns-clause-none g c =
-    let history = c.args.history.now in
-    all_match history _ _ _ _ _
-    (subst (AllMatch client_of receipts_of history) c.deref.ensures.value c.in_default-first_mismatch.ensures.none)
-    (subst (AllMatch engine_of_seat receipts_of history) c.deref-2.ensures.value
-    c.in_default-first_mismatch-2.ensures.none)
-    c.in-Some.is (subst (λ r. IsNone c.compare_receipts.result ↔ (r ≡ steps_of_actor history Admin))
+    let m = (goal.at.returns-clause-none g c).In_default-first_mismatch-2 in
+    all_match c.args.history.now _ _ _ _ _ (numbered_match g m).0 (numbered_match g m).1
+    c.in-Some.is (subst (λ r. IsNone c.compare_receipts.result ↔ (r ≡ steps_of_actor c.args.history.now Admin))
     c.receipts.ensures c.compare_receipts.ensures.none)
 
 pub returns-clause-some : goal.returns-clause-some
 returns-clause-some g c =
-    let history = c.args.history.now in
-    admin_first history _ _ _ _ _
-    (subst (AllMatch client_of receipts_of history) c.deref.ensures.value c.in_default-first_mismatch.ensures.none)
-    (subst (AllMatch engine_of_seat receipts_of history) c.deref-2.ensures.value
-    c.in_default-first_mismatch-2.ensures.none)
-    c.in-Some.is (subst (λ r. IfSome c.compare_receipts.result (DiffersFirstAt r (steps_of_actor history Admin)))
+    let m = (goal.at.returns-clause-some g c).In_default-first_mismatch-2 in
+    admin_first c.args.history.now _ _ _ _ _ (numbered_match g m).0 (numbered_match g m).1 c.in-Some.is
+    (subst (λ r. IfSome c.compare_receipts.result (DiffersFirstAt r (steps_of_actor c.args.history.now Admin)))
     c.receipts.ensures c.compare_receipts.ensures.some)
 
 pub first_mismatch-requires-2 : goal.first_mismatch-requires-2

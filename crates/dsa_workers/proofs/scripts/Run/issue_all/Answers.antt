@@ -1,6 +1,5 @@
 use Rattle.dsa_workers.proofs.scripts.Run.issue_all.Goals as goal
-use Rattle.std.proofs.Common.{ℕ, ◌≡◌, ◌∙◌, ◌+◌, ap, sym, subst, cond, refl, true, false, not, arith}
-use Rattle.dsa_workers.specs.Calls.{goes_on}
+use Rattle.std.proofs.Common.{◌+◌, ◌∙◌, ap, sym, subst, refl, true, false, not, arith}
 use Rattle.dsa_workers.proofs.Calls.{AsksSoFar, asks_none, asks_more, asks_full, ends_done, ends_out, moved_by}
 use Rattle.dsa_workers.proofs.scripts.Run.issue_all.Goals.{then-goes_on, else-goes_on}
 use Rattle.std.proofs.lemmas.Grind.{common_steps}
@@ -21,19 +20,16 @@ returns-then-is_full g c =
 
 pub loop-turn-preserved : goal.loop-turn-preserved
 loop-turn-preserved g c =
-    let moved : c.if-goes_on.at ≡ c.loop-turn.at + cond {A = ℕ} (goes_on c.issue_once-reply.result) 1 0 =
-    elim c.if-goes_on.branch [
-      | then-goes_on w ↦ moved_by (goes_on c.issue_once-reply.result) true _ _ (sym c.goes_on.ensures
-          ∙ w.if-goes_on.true) w.at-is
-      | else-goes_on w ↦ moved_by (goes_on c.issue_once-reply.result) false _ _ (sym c.goes_on.ensures
-          ∙ w.if-goes_on.false) (omega (arith, w.at-is))
-    ] in
     subst (λ b. AsksSoFar g.L.Sharing.caps g.L.Sharing.capacity c.args.script.now c.args.seat.now
     c.issue_once-reply.new.seat
     (c.loop-turn.turn + 1) c.if-goes_on.at b) (ap not (sym c.goes_on-waits.ensures))
-    (asks_more _ _ _ _ _ _ c.loop-turn.turn c.loop-turn.at _ c.loop-turn.waits _ c.issue_once-reply.result
+    (asks_more _ _ _ _ _ _ c.loop-turn.turn c.loop-turn.at c.if-goes_on.at c.loop-turn.waits _ c.issue_once-reply.result
     c.loop-turn.invariant c.issue_once-reply.ensures
-    (sym c.is_full.ensures ∙ c.if-is_full.false) (omega arith) moved)
+    (sym c.is_full.ensures ∙ c.if-is_full.false) (omega arith)
+    (elim c.if-goes_on.branch [
+      | then-goes_on w ↦ moved_by _ true _ _ (sym c.goes_on.ensures ∙ w.if-goes_on.true) w.at-is
+      | else-goes_on w ↦ moved_by _ false _ _ (sym c.goes_on.ensures ∙ w.if-goes_on.false) (omega (arith, w.at-is))
+    ]))
 
 pub returns-then-at-script-2 : goal.returns-then-at-script-2
 returns-then-at-script-2 g c =

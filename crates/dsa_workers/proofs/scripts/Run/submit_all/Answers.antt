@@ -1,6 +1,5 @@
 use Rattle.dsa_workers.proofs.scripts.Run.submit_all.Goals as goal
-use Rattle.std.proofs.Common.{ℕ, ◌≡◌, ◌∙◌, ◌+◌, sym, cond, refl, true, false, arith}
-use Rattle.dsa_workers.specs.Calls.{goes_on}
+use Rattle.std.proofs.Common.{◌∙◌, sym, refl, true, false, arith}
 use Rattle.dsa_workers.proofs.Calls.{so_far_none, submits_more, submits_full, ends_done, ends_out, moved_by}
 use Rattle.dsa_workers.proofs.{Calls.{client_runs}, scripts.Run.submit_all.Goals.{then-goes_on, else-goes_on}}
 use Rattle.std.proofs.lemmas.Grind.{common_steps}
@@ -22,15 +21,12 @@ returns-then-is_full g c =
 
 pub loop-turn-preserved : goal.loop-turn-preserved
 loop-turn-preserved g c =
-    let moved : c.if-goes_on.at ≡ c.loop-turn.at + cond {A = ℕ} (goes_on c.submit_once-reply.result) 1 0 =
-    elim c.if-goes_on.branch [
-      | then-goes_on w ↦ moved_by (goes_on c.submit_once-reply.result) true _ _ (sym c.goes_on.ensures
-          ∙ w.if-goes_on.true) w.at-is
-      | else-goes_on w ↦ moved_by (goes_on c.submit_once-reply.result) false _ _ (sym c.goes_on.ensures
-          ∙ w.if-goes_on.false) (omega (arith, w.at-is))
-    ] in
-    submits_more _ _ _ _ _ _ c.loop-turn.turn c.loop-turn.at _ _ c.submit_once-reply.result c.loop-turn.invariant
-    c.submit_once-reply.ensures (sym c.is_full.ensures ∙ c.if-is_full.false) (omega arith) moved
+    submits_more _ _ _ _ _ _ c.loop-turn.turn c.loop-turn.at c.if-goes_on.at _ c.submit_once-reply.result c.loop-turn.invariant
+    c.submit_once-reply.ensures (sym c.is_full.ensures ∙ c.if-is_full.false) (omega arith)
+    (elim c.if-goes_on.branch [
+      | then-goes_on w ↦ moved_by _ true _ _ (sym c.goes_on.ensures ∙ w.if-goes_on.true) w.at-is
+      | else-goes_on w ↦ moved_by _ false _ _ (sym c.goes_on.ensures ∙ w.if-goes_on.false) (omega (arith, w.at-is))
+    ])
 
 pub returns-then-at-script-2 : goal.returns-then-at-script-2
 returns-then-at-script-2 g c =
