@@ -1,9 +1,11 @@
 """Writes scenario documents, with names for commands and operations.
 
     python3 examples/write_document.py | ./run
+    python3 examples/write_document.py --line | ./run serve
 
-runs the document of one-move.json. docs/SCENARIO.md describes documents. Only command words are
-checked here; what else is wrong with a document is told by the program that runs it.
+run the document of one-move.json, the second one in one line. docs/SCENARIO.md describes documents.
+Only command words are checked here; what else is wrong with a document is told by the program that
+runs it.
 """
 
 import json
@@ -101,6 +103,10 @@ class Document:
     def clear_error(self):
         self.step("clear")
 
+    def line(self):
+        """The document in one line, as `serve` reads it first."""
+        return json.dumps({"caps": self.caps, "capacity": self.capacity, "steps": self.steps})
+
     def __str__(self):
         steps = ",\n".join("    " + json.dumps(step) for step in self.steps)
         head = f'  "caps": {json.dumps(self.caps)},\n  "capacity": {self.capacity},'
@@ -108,6 +114,9 @@ class Document:
 
 
 if __name__ == "__main__":
+    if sys.argv[1:] not in ([], ["--line"]):
+        print("usage: python3 write_document.py [--line]", file=sys.stderr)
+        sys.exit(2)
     document = Document()
     document.queue(0, size=4, threshold=2)
     document.queue(1, size=2, dedicated=True, pasid=7)
@@ -119,4 +128,4 @@ if __name__ == "__main__":
     document.submit(move(4096), queue=0, pasid=5)
     document.dispatch(0)
     document.finish(0, name=0)
-    print(document)
+    print(document.line() if sys.argv[1:] else document)

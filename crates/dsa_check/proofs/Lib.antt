@@ -3,6 +3,7 @@ pub mod Firsts
 pub mod Keys
 pub mod Nearest
 pub mod ReadTexts
+pub mod Repeated
 pub mod RowTexts
 pub mod Shallow
 pub mod Spots
@@ -10,3 +11,4 @@ pub mod Steps
 pub mod TableLaws
 pub mod Texts
 pub mod Told
+pub mod Warned

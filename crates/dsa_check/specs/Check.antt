@@ -1,19 +1,29 @@
 -- What a check tells of a document.
-use Rattle.std.specs.Prelude.{◌≡◌, ℕ, List, [], ◌∷◌, Option, Some, None}
+use Rattle.std.specs.Prelude.{◌≡◌, ℕ, Bool, true, false, List, [], ◌∷◌, ◌++◌, map, Option, Some, None}
 use Rattle.dsa_scenario.specs.declared.faults.ScenarioFault.{ScenarioFault}
-use Rattle.dsa_check.specs.declared.finding.Finding.{Finding}
-use Rattle.dsa_check.specs.{Findings.{AreFounded}, Judgement.{AreFaultsOf, IsJudged, faults_told}, Lines.{report_text}}
+use Rattle.dsa_check.specs.declared.{checking.Check.{Check}, finding.Finding.{Finding}}
+use Rattle.dsa_check.specs.{Findings.{AreFounded}, Judgement.{AreFaultsOf, IsJudged, faults_told}}
+use Rattle.dsa_check.specs.{Lines.{report_text, warnings_text}, Warnings.{AreWarningsOf, warnings_told}}
 
 abbrev pub first_of : List ScenarioFault → Option ScenarioFault
 first_of [] = None
 first_of (fault ∷ faults) = Some fault
 
--- the text has the lines of all faults of the document, and the fault is the first of them; it has none where it is
--- right; and each line tells what is so of the part that has the fault
-pub record IsCheckReportOf (bytes : List ℕ) (fault : Option ScenarioFault) (text : List ℕ) : Type 0 where
-  pub findings : List Finding
-  pub all : AreFaultsOf bytes (faults_told findings)
-  pub judged : IsJudged bytes (faults_told findings)
-  pub told : AreFounded bytes findings
-  pub first : fault ≡ first_of (faults_told findings)
-  pub lines : text ≡ report_text findings
+-- the faults that warnings count as, where they count (profile)
+abbrev pub faults_warned : Bool → List Finding → List ScenarioFault
+faults_warned false warnings = []
+faults_warned true warnings = map (λ warning. warning.0) (warnings_told warnings)
+
+-- the text has the lines of all faults of the document, and after them those of all warnings; each line tells what is
+-- so of the part that it names. The fault is the first of those that have a line; a warning counts as one in a strict
+-- check only. There is none where none counts
+pub record IsCheckReportOf (check : Check) (bytes : List ℕ) (fault : Option ScenarioFault) (text : List ℕ) : Type 0
+  where
+    pub findings : List Finding
+    pub all : AreFaultsOf bytes (faults_told findings)
+    pub judged : IsJudged bytes (faults_told findings)
+    pub told : AreFounded bytes findings
+    pub warnings : List Finding
+    pub warned : AreWarningsOf bytes warnings
+    pub first : fault ≡ first_of (faults_told findings ++ faults_warned check.is_strict warnings)
+    pub lines : text ≡ report_text findings ++ warnings_text warnings

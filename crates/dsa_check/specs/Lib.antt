@@ -5,5 +5,7 @@ pub mod Judgement
 pub mod Lines
 pub mod Places
 pub mod Reasons
+pub mod Repeats
 pub mod Tables
+pub mod Warnings
 pub mod Worked

@@ -4,6 +4,7 @@ use Rattle.dsa_check.specs.declared.finding.Reason.TheVariants as reason
 use Rattle.dsa_scenario.specs.declared.fields.Form.TheVariants as form
 use Rattle.dsa_check.specs.declared.fields.Found.TheVariants as found
 use Rattle.std.specs.Prelude.{ℕ, Bool, true, false, List, [], ◌∷◌, ◌++◌, Option, Some, None, codes, decimal, flat_map}
+use Rattle.std.specs.Prelude.{option_map}
 use Rattle.std.specs.Prelude.{nat_lt, if◌then◌else◌}
 use Rattle.std.specs.Fmt.{signed_decimal}
 use Rattle.std.specs.Prelude.{String, string_bytes}
@@ -26,9 +27,12 @@ abbrev pub holder_text : Bool → List ℕ
 holder_text true = codes " of \"caps\""
 holder_text false = []
 
--- a key, and the object that it stands in where that is `caps`
+-- the key of this name, and the object that it stands in where that is `caps`
+abbrev pub named_text : List ℕ → Bool → List ℕ
+named_text name in_caps = codes "\"" ++ name ++ codes "\"" ++ holder_text in_caps
+
 abbrev pub key_text : Key → List ℕ
-key_text key = codes "\"" ++ key.name.now ++ codes "\"" ++ holder_text key.in_caps
+key_text key = named_text key.name.now key.in_caps
 
 abbrev pub whole_range_text : ℕ → ℕ → List ℕ
 whole_range_text least most = codes "a whole number from " ++ (decimal least ++ (codes " to " ++ decimal most))
@@ -131,6 +135,18 @@ no_kind_text (Some name) None =
     codes "\"do\" is \"" ++ string_bytes name ++ (codes "\", none of " ++ names_text kinds)
 no_kind_text None near = codes "\"do\" names no kind of step"
 
+-- a key that nothing reads, where it can be told, and the known key that is spelled nearly so
+abbrev pub stray_text : Option (List ℕ) → Option (List ℕ) → List ℕ
+stray_text (Some key) (Some near) =
+    codes "\"" ++ (key ++ (codes "\" is no key here, but \"" ++ (near ++ codes "\" is")))
+stray_text (Some key) None = codes "\"" ++ (key ++ codes "\" is no key here")
+stray_text None near = codes "a key that is long or not plain is no key here"
+
+-- a key that comes more than once, where it can be told
+abbrev pub twice_text : Option (List ℕ) → List ℕ
+twice_text (Some key) = codes "\"" ++ (key ++ codes "\" comes twice")
+twice_text None = codes "a key that is long or not plain comes twice"
+
 -- how many digits a text has
 abbrev pub digits_text : ℕ → List ℕ
 digits_text count = count_text (codes " has ") count (codes "digit") (codes "digits")
@@ -148,6 +164,8 @@ reason_text (reason.ManyDigits key count) =
 reason_text (reason.NoDigit key at) = key_text key ++ (codes " has no hexadecimal digit at character " ++ decimal at)
 reason_text (reason.NoObject found) = found_text found ++ codes " stands here, an object is wanted"
 reason_text (reason.UnknownKind name near) = no_kind_text name near
+reason_text (reason.Stray found near) = stray_text (option_map string_bytes found) (option_map (λ name. name.now) near)
+reason_text (reason.Twice found) = twice_text (option_map string_bytes found)
 reason_text reason.NotUtf8 = codes "the bytes are no UTF-8"
 reason_text (reason.Syntax syntax) = syntax_text syntax
 
@@ -194,3 +212,13 @@ finding_text finding = lines_of_finding finding finding.reasons.items
 
 abbrev pub report_text : List Finding → List ℕ
 report_text findings = flat_map finding_text findings
+
+-- the line of a warning
+abbrev pub warning_line : Finding → Reason → List ℕ
+warning_line finding reason = codes "warning: " ++ line_of_finding finding reason
+
+abbrev pub warning_text : Finding → List ℕ
+warning_text finding = flat_map (warning_line finding) finding.reasons.items
+
+abbrev pub warnings_text : List Finding → List ℕ
+warnings_text findings = flat_map warning_text findings

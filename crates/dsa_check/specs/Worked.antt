@@ -1,5 +1,5 @@
 -- A document and keys that the worked rows speak of.
-use Rattle.std.specs.Prelude.{◌≡◌, ℕ, true, false, List, [], ◌∷◌, map, filter, codes, Option, None, option_map}
+use Rattle.std.specs.Prelude.{◌≡◌, ℕ, true, false, List, [], ◌∷◌, map, filter, codes, Option, Some, None, option_map}
 use Rattle.std.specs.{Prelude.{⊤}, Str.{chars}}
 use Rattle.strsim.specs.Edits.{cost_at, osa_row, osa_from}
 use Rattle.serde_json.specs.Data.{Data, null}
@@ -7,12 +7,21 @@ use Rattle.dsa_scenario.specs.Worked.{Fields, whole, object_of, array_of_one, fi
 use Rattle.dsa_scenario.specs.Worked.{some_caps, poll_step, smallest_caps_text, document_text}
 use Rattle.std.specs.declared.{alloc.Global.{Global}, vec.Vec.{Vec}}
 use Rattle.dsa_scenario.specs.declared.{faults.ScenarioFault.{ScenarioFault, TheVariants.{BadCapacity}}, fields.Form.{Form}}
+use Rattle.dsa_check.specs.declared.checking.Check.{Check}
 use Rattle.dsa_check.specs.declared.syntax.Wanted.{Wanted}
 use Rattle.dsa_check.specs.declared.syntax.Wanted.TheVariants as wanted
 use Rattle.dsa_check.specs.declared.{fields.Key.{Key}, finding.{Finding.{Finding}, Reason.{Reason}}}
 use Rattle.dsa_scenario.specs.{Fields.{Row}, Actions.{rows_of_kind, kind_of}}
-use Rattle.dsa_check.specs.Findings.{TellsWhy}
-use Rattle.dsa_check.specs.Reasons.{IsReasonOf, is_unfit, near_kind}
+use Rattle.json.specs.Json as json
+use Rattle.dsa_check.specs.{Findings.{TellsWhy}, Repeats.{keys_written, caps_written}}
+use Rattle.dsa_check.specs.{Reasons.{IsReasonOf, is_unfit, near_kind}, Warnings.{near_name}}
+
+-- a check in which warnings count as no faults, and one in which they do
+abbrev pub plain_check : Check
+plain_check = record { is_strict = false }
+
+abbrev pub strict_check : Check
+strict_check = record { is_strict = true }
 
 abbrev pub right_document : Fields
 right_document =
@@ -78,7 +87,32 @@ all_wanted =
     ∷ wanted.Word ∷ wanted.Digit ∷ wanted.NoZero ∷ wanted.InRange ∷ wanted.DoubleQuote ∷ wanted.Quote 6 17
     ∷ wanted.Escaped ∷ wanted.Escape ∷ wanted.HexDigit ∷ wanted.Pair ∷ wanted.Depth ∷ []
 
+-- ---- texts, as they are written
+
+abbrev pub written_members : List (List ℕ × json.Json) → json.Members
+written_members [] = json.no_members
+written_members (m ∷ ms) = json.member m.0 m.1 (written_members ms)
+
+-- the object with these members, of which a key may come twice
+abbrev pub written_object : List (List ℕ × json.Json) → json.Json
+written_object ms = json.object (written_members ms)
+
+-- the keys of the caps of a text
+abbrev pub keys_in_caps : json.Json → List (List ℕ)
+keys_in_caps written = keys_written (caps_written (Some written))
+
+-- a text in which a key of each object comes twice, of the steps in the second
+abbrev pub written_twice : json.Json
+written_twice =
+    let once = written_object ((codes "do", json.null) ∷ []) in
+    let twice = written_object ((codes "do", json.null) ∷ (codes "do", json.null) ∷ []) in
+    written_object (
+    (codes "capacity", json.null) ∷
+    (codes "caps", written_object ((codes "slots", json.null) ∷ (codes "slots", json.null) ∷ [])) ∷
+    (codes "steps", json.array (json.item once (json.item twice json.no_items))) ∷
+    (codes "capacity", json.null) ∷ [])
+
 -- what a row unfolds to compute what is near to a name
 unfoldable pub near_on_literals : ⊤
-unfolding near_kind chars cost_at osa_row osa_from
+unfolding near_kind near_name chars cost_at osa_row osa_from
 near_on_literals = tt

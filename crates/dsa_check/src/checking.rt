@@ -1,18 +1,21 @@
 //! The check of a document, as a way to make a text of it.
 
-ghost use Rattle.std.specs.Prelude.{◌≡◌};
+ghost use Rattle.std.specs.Prelude.{◌≡◌, ◌++◌, true};
 ghost use Rattle.dsa_check.specs.Judgement.{faults_told};
-ghost use Rattle.dsa_check.specs.Check.{IsCheckReportOf, first_of};
+ghost use Rattle.dsa_check.specs.Check.{IsCheckReportOf, first_of, faults_warned};
 
-use crate::finding::Finding;
+use crate::finding::{Finding, Judgement};
 use crate::judge::judge_document;
 use crate::report::report_lines;
 use dsa_scenario::{Render, Rendered, Rendering, ScenarioFault};
 use std::alloc::Global;
 
-/// All faults of a document, as lines, and the first of them.
-#[derive(Clone, Copy)]
-pub struct Check;
+/// All faults of a document and all warnings, as lines, and the first fault.
+#[derive(Clone, Copy, Debug, PartialEq, Eq)]
+pub struct Check {
+    /// Whether a warning counts as a fault of its part.
+    pub is_strict: bool,
+}
 
 fn first_fault(findings: &[Finding]) -> Option<ScenarioFault>
     ensures { result ≡ first_of (faults_told findings.now) }
@@ -23,13 +26,37 @@ fn first_fault(findings: &[Finding]) -> Option<ScenarioFault>
     }
 }
 
+// The fault of the first warning.
+fn first_warned(warnings: &[Finding]) -> Option<ScenarioFault>
+    ensures { result ≡ first_of (faults_warned true warnings.now) }
+{
+    for warning in warnings {
+        if !warning.reasons.is_empty() {
+            return Some(warning.fault);
+        }
+    }
+    None
+}
+
+// The fault that is told: the first, or where warnings count that of the first warning.
+fn fault_told(is_strict: bool, faults: &[Finding], warnings: &[Finding]) -> Option<ScenarioFault>
+    ensures { result
+        ≡ first_of (faults_told faults.now ++ faults_warned is_strict warnings.now) }
+{
+    match first_fault(faults) {
+        Some(fault) => Some(fault),
+        None if is_strict => first_warned(warnings),
+        None => None,
+    }
+}
+
 impl Render for Check {
-    ghost is_rendering = { λ check bytes fault text. IsCheckReportOf bytes fault text };
+    ghost is_rendering = { λ check bytes fault text. IsCheckReportOf check bytes fault text };
 
     fn render(&self, alloc: Global, bytes: &[u8]) -> Rendered {
-        let findings = judge_document(alloc, bytes)?;
-        let text = report_lines(alloc, findings.as_slice())?;
-        let fault = first_fault(findings.as_slice());
+        let Judgement { faults, warnings } = judge_document(alloc, bytes)?;
+        let text = report_lines(alloc, faults.as_slice(), warnings.as_slice())?;
+        let fault = fault_told(self.is_strict, faults.as_slice(), warnings.as_slice());
         Ok(Rendering {
             text,
             fault,

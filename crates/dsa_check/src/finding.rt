@@ -1,20 +1,32 @@
 //! What is told of a document.
 
+ghost use Rattle.std.specs.Prelude.{◌≡◌, None};
+ghost use Rattle.dsa_check.specs.Findings.{IsNowhere};
+
 use crate::fields::{Found, Key};
 use crate::syntax::Syntax;
 use dsa_scenario::{Form, ScenarioFault, StepKind};
 
-/// A fault of a document, with all that is known of it.
+/// What is told of a document.
+#[derive(Drop)]
+pub struct Judgement {
+    /// All faults, in the order in which a run would tell each where no other came before it.
+    pub faults: Vec<Finding>,
+    /// All warnings: those of the document, of its caps, and of its steps in their order.
+    pub warnings: Vec<Finding>,
+}
+
+/// A fault of a document, or a warning, with all that is known of it.
 #[derive(Drop)]
 pub struct Finding {
-    /// The fault, as a run tells it where no other comes before it.
+    /// The fault, as a run tells it where no other comes before it. A warning has that of its part.
     pub fault: ScenarioFault,
     pub place: Place,
     /// What is wrong there. It may be empty.
     pub reasons: Vec<Reason>,
 }
 
-/// Where a fault is, as far as that is known: a line and a column, counted from 1, and the kind of
+/// Where it is, as far as that is known: a line and a column, counted from 1, and the kind of
 /// the step.
 #[derive(Clone, Copy)]
 pub struct Place {
@@ -22,6 +34,12 @@ pub struct Place {
     pub column: Option<usize>,
     pub kind: Option<StepKind>,
 }
+
+const NOWHERE: Place = Place {
+    line: None,
+    column: None,
+    kind: None,
+};
 
 /// What is wrong with an object, or with a text that is no JSON.
 #[derive(Drop)]
@@ -67,8 +85,32 @@ pub enum Reason {
         found: Option<String>,
         near: Option<StepKind>,
     },
+    /// The key, which is told where it is short and plain, is one that nothing reads; and a known
+    /// one that is spelled nearly so.
+    Stray {
+        found: Option<String>,
+        near: Option<&'static str>,
+    },
+    /// The key, which is told where it is short and plain, comes more than once.
+    Twice {
+        found: Option<String>,
+    },
     /// The bytes are no text.
     NotUtf8,
     /// The text is no JSON.
     Syntax(Syntax),
+}
+
+/// A finding of the whole document or of another part without a place.
+pub fn whole(fault: ScenarioFault, reasons: Vec<Reason>) -> Finding
+    ensures fault { result.fault ≡ fault }
+    ensures place { IsNowhere result.place }
+    ensures kind { result.place.kind ≡ None }
+    ensures reasons { result.reasons ≡ reasons }
+{
+    Finding {
+        fault,
+        place: NOWHERE,
+        reasons,
+    }
 }

@@ -1,47 +1,34 @@
 //! The faults of a document.
 
-ghost use Rattle.std.specs.Prelude.{◌≡◌, ◌≤◌, ℕ, length, true, false, List, ◌++◌, [], ◌∷◌, map, slice_range, IfOk, IfSome, OnOk};
-ghost use Rattle.serde_json.specs.{View.{view}, Written.{has_float}};
+ghost use Rattle.std.specs.Prelude.{◌≡◌, ◌≤◌, ℕ, length, true, false, List, ◌++◌, [], ◌∷◌, map, IsUtf8, IfOk, IfSome, OnOk};
+ghost use Rattle.serde_json.specs.View.{view};
+ghost use Rattle.json.specs.Json.{document as document_of};
 ghost use Rattle.std.specs.List.{All, AllByRecursion};
 ghost use Rattle.dsa_scenario.specs.Actions.{action_of};
-ghost use Rattle.dsa_check.specs.Findings.{AppendsAll, IsFounded, IsNowhere, IsWrongAt, AreOfUtf8, IsInText, IsFindingOf, IsFindingIn, AreFounded};
-ghost use Rattle.dsa_check.specs.Places.{IsSpot, IsShallow, AreTextOf, BeginsOnLine, IsFoundBetween, IsToldWhereFound, extent_at};
+ghost use Rattle.dsa_check.specs.Findings.{AppendsAll, IsFounded, IsWrongAt, AreOfUtf8, IsInText, IsFindingOf, IsFindingIn, AreFounded};
+ghost use Rattle.dsa_check.specs.Places.{IsSpot, IsShallow};
 ghost use Rattle.dsa_check.specs.Flaws.{IsOpenFrom};
+ghost use Rattle.dsa_check.specs.Warnings.{AreWarningsOf, HasPlace, warnings_told, warnings_of_value};
 ghost use Rattle.dsa_check.specs.Judgement.{faults_told, Notes, AreFaultsOf, IsJudged, head_faults, step_items_of, caps_at, capacity_at, fault_of_step, bad_steps, caps_faults, capacity_faults, faults_of_value};
 
-use crate::finding::{Finding, Place, Reason};
+use crate::finding::{Finding, Judgement, Place, Reason, whole};
 use crate::places::{START, Spot};
 use crate::reasons::{capacity_reasons, caps_reasons, document_reasons, step_reasons};
-use crate::scan::{Extent, Flaw, is_json, scan_text};
+use crate::repeats::read_written;
+use crate::scan::{Flaw, is_json, scan_text};
+use crate::step_lines::{Steps, line_of, no_steps};
 use crate::syntax::{end_of, syntax_of};
 use crate::tables::MAX_CAPACITY;
+use crate::warnings::warnings_in;
 use dsa_event_text::Added;
 use dsa_regs::check_caps;
 use dsa_scenario::{
     ScenarioFault, kind_of, parse_action, parse_caps, parse_head, parse_json, u64_field,
 };
+use json::Scratch;
 use serde_json::Value;
 use std::alloc::{AllocError, Global};
 use std::str;
-
-const NOWHERE: Place = Place {
-    line: None,
-    column: None,
-    kind: None,
-};
-
-// A fault of the whole document.
-fn whole(fault: ScenarioFault, reasons: Vec<Reason>) -> Finding
-    ensures fault { result.fault ≡ fault }
-    ensures place { IsNowhere result.place }
-    ensures reasons { result.reasons ≡ reasons }
-{
-    Finding {
-        fault,
-        place: NOWHERE,
-        reasons,
-    }
-}
 
 // Whether what begins at this place goes on to the end of the bytes, if a sign stands there.
 fn is_open_from(alloc: Global, bytes: &[u8], at: usize) -> Result<bool, AllocError>
@@ -132,113 +119,6 @@ fn judge_head(alloc: Global, document: &Value, findings: &mut Vec<Finding>) -> A
     Ok(())
 }
 
-// The items of a document's steps in its text, as far as they have been asked for.
-#[derive(Drop)]
-struct Steps {
-    extents: Option<Vec<Extent>>,
-    // Where the last one that was asked for begins.
-    spot: Spot,
-}
-
-// Where an item of the steps stands, by the only walk over a document that is JSON.
-fn extent_of(
-    alloc: Global,
-    bytes: &[u8],
-    steps: &mut Steps,
-    i: usize,
-) -> Result<Option<Extent>, AllocError>
-    ensures kept { steps.new.spot ≡ steps.old.spot }
-    ensures told { IfOk result (λ extent. extent ≡ extent_at steps.new.extents i) }
-{
-    if steps.extents.is_none() {
-        steps.extents = Some(scan_text(alloc, bytes)?.steps);
-    }
-    match &steps.extents {
-        Some(extents) => Ok(extents.get(i).copied()),
-        None => Ok(None),
-    }
-}
-
-// Whether two values are the same, by their texts.
-fn is_same(alloc: Global, value: &Value, other: &Value) -> Result<bool, AllocError>
-    requires value { IsShallow (view value.now) }
-    requires other { IsShallow (view other.now) }
-    ensures same { IfOk result (λ same. same ≡ true → view value.now ≡ view other.now) }
-    ensures told { has_float (view value.now) ≡ false → view value.now ≡ view other.now
-        → IfOk result (λ same. same ≡ true) }
-{
-    let text = value.to_string(alloc)?;
-    let other_text = other.to_string(alloc)?;
-    Ok(text.as_str() == other_text.as_str())
-}
-
-// Whether the bytes are a text of the value, from its first byte on.
-fn is_text_of(alloc: Global, bytes: &[u8], value: &Value) -> Result<bool, AllocError>
-    requires { IsShallow (view value.now) }
-    ensures so { IfOk result (λ is. is ≡ true → AreTextOf (view value.now) bytes.now) }
-    ensures told { has_float (view value.now) ≡ false → AreTextOf (view value.now) bytes.now
-        → IfOk result (λ is. is ≡ true) }
-{
-    match bytes.first() {
-        Some(first) if *first > b' ' => {}
-        _ => return Ok(false),
-    }
-    match parse_json(alloc, bytes) {
-        Ok(read) => is_same(alloc, &read, value),
-        Err(ScenarioFault::OutOfMemory) => Err(AllocError),
-        Err(_) => Ok(false),
-    }
-}
-
-// Whether the bytes between these places are a text of the value.
-fn is_text_at(
-    alloc: Global,
-    bytes: &[u8],
-    at: usize,
-    end: usize,
-    value: &Value,
-) -> Result<bool, AllocError>
-    requires { IsShallow (view value.now) }
-    ensures so { IfOk result
-        (λ is. is ≡ true → AreTextOf (view value.now) (slice_range bytes.now at end)) }
-    ensures told { (from : ℕ) → IsFoundBetween bytes.now (view value.now) from at end
-        → IfOk result (λ is. is ≡ true) }
-{
-    match bytes.get(at..end) {
-        Some(text) => is_text_of(alloc, text, value),
-        None => Ok(false),
-    }
-}
-
-// The line on which a step begins, where its text is found.
-fn line_of(
-    alloc: Global,
-    bytes: &[u8],
-    steps: &mut Steps,
-    i: usize,
-    step: &Value,
-) -> Result<Option<usize>, AllocError>
-    requires spot { IsSpot bytes.now steps.old.spot }
-    requires shallow { IsShallow (view step.now) }
-    ensures spot { IsSpot bytes.now steps.new.spot }
-    ensures line { IfOk result (λ line. IfSome line (BeginsOnLine bytes.now (view step.now))) }
-    ensures told { IfOk result
-        (IsToldWhereFound bytes.now (view step.now) steps.old.spot.at
-        (extent_at steps.new.extents i)) }
-{
-    let Some(Extent { begin, end }) = extent_of(alloc, bytes, steps, i)? else {
-        return Ok(None);
-    };
-    let spot = steps.spot.moved_to(bytes, begin);
-    steps.spot = spot;
-    let is_found = is_text_at(alloc, bytes, spot.at, end, step)?;
-    if is_found {
-        Ok(Some(spot.line))
-    } else {
-        Ok(None)
-    }
-}
-
 // A step that is no step object.
 fn bad_step(
     alloc: Global,
@@ -303,10 +183,7 @@ fn judge_items(
         (AppendsAll (IsFindingIn bytes.now (map view items.now)) findings.old.items
         findings.new.items) }
 {
-    let mut steps = Steps {
-        extents: None,
-        spot: START,
-    };
+    let mut steps = no_steps();
     for (i, item) in items.iter().enumerate() {
         judge_item(alloc, bytes, &mut steps, i, item, findings)?;
     }
@@ -389,16 +266,41 @@ fn judge_value(alloc: Global, bytes: &[u8], document: &Value) -> Result<Vec<Find
     Ok(findings)
 }
 
+// All faults and all warnings of a JSON value.
+fn judge_json(alloc: Global, bytes: &[u8], document: &Value) -> Result<Judgement, AllocError>
+    requires shallow { IsShallow (view document.now) }
+    requires text { IsUtf8 bytes.now }
+    ensures faults { IfOk result
+        (λ told. faults_told told.faults.items ≡ faults_of_value (view document.now)) }
+    ensures told { IfOk result
+        (λ told. AllByRecursion (IsFounded bytes.now (view document.now)) told.faults.items) }
+    ensures warnings { IfOk result
+        (λ told. warnings_told told.warnings.items
+        ≡ warnings_of_value (document_of bytes.now) (view document.now)) }
+    ensures placed { IfOk result
+        (λ told. AllByRecursion (HasPlace bytes.now (view document.now)) told.warnings.items) }
+{
+    let faults = judge_value(alloc, bytes, document)?;
+    let mut scratch = Scratch::new(alloc);
+    let written = read_written(alloc, bytes, &mut scratch)?;
+    let warnings = warnings_in(alloc, bytes, document, written.as_ref())?;
+    Ok(Judgement { faults, warnings })
+}
+
 /// All faults of the document in these bytes, in the order in which a run would tell each where no
-/// other came before it. There is none exactly where the document is right.
-pub fn judge_document(alloc: Global, bytes: &[u8]) -> Result<Vec<Finding>, AllocError>
-    ensures all { IfOk result (λ findings. AreFaultsOf bytes.now (faults_told findings.items)) }
-    ensures first { IfOk result (λ findings. IsJudged bytes.now (faults_told findings.items)) }
-    ensures told { IfOk result (λ findings. AreFounded bytes.now findings.items) }
+/// other came before it, and all warnings. There is no fault exactly where the document is right.
+pub fn judge_document(alloc: Global, bytes: &[u8]) -> Result<Judgement, AllocError>
+    ensures all { IfOk result (λ told. AreFaultsOf bytes.now (faults_told told.faults.items)) }
+    ensures first { IfOk result (λ told. IsJudged bytes.now (faults_told told.faults.items)) }
+    ensures told { IfOk result (λ told. AreFounded bytes.now told.faults.items) }
+    ensures warned { IfOk result (λ told. AreWarningsOf bytes.now told.warnings.items) }
 {
     match parse_json(alloc, bytes) {
-        Ok(document) => judge_value(alloc, bytes, &document),
+        Ok(document) => judge_json(alloc, bytes, &document),
         Err(ScenarioFault::OutOfMemory) => Err(AllocError),
-        Err(_) => no_json(alloc, bytes),
+        Err(_) => Ok(Judgement {
+            faults: no_json(alloc, bytes)?,
+            warnings: Vec::new(alloc),
+        }),
     }
 }

@@ -3,6 +3,7 @@
 ghost use Rattle.std.specs.Prelude.{◌≡◌, ◌<◌, [], ◌∷◌, bytes_eq, length, map, true, IfOk, IfSome, option_map, string_bytes, None};
 ghost use Rattle.serde_json.specs.View.{view};
 ghost use Rattle.dsa_check.specs.Reasons.{is_asked, letters_of, begins_with, distance_of, stray_distance, is_below, near_key, near_kind, IsStrayKey};
+ghost use Rattle.dsa_check.specs.Warnings.{near_name};
 ghost use Rattle.dsa_scenario.specs.Fields.{row_of_field};
 
 use crate::syntax::is_plain;
@@ -156,4 +157,25 @@ pub fn near_kind(alloc: Global, name: &str) -> Result<Option<StepKind>, AllocErr
         }
     }
     Ok(nearest)
+}
+
+/// The name here that the key is spelled nearly as, the nearest.
+pub fn near_name(
+    alloc: Global,
+    names: &[&'static str],
+    key: &str,
+) -> Result<Option<&'static str>, AllocError>
+    ensures { IfOk result
+        (λ near. option_map (λ name. name.now) near
+        ≡ near_name (map (λ name. name.now) names.now) key.now) }
+{
+    let (mut near, mut least) = (None, FAR + 1);
+    for name in names {
+        let distance = distance_of(alloc, name, key)?;
+        if is_below(least, distance) {
+            near = Some(*name);
+            least = distance.unwrap_or(least);
+        }
+    }
+    Ok(near)
 }

@@ -126,8 +126,8 @@ pub fn add_reasons(
     Ok(())
 }
 
-// The name, where it can be told as it stands.
-fn plain_name(alloc: Global, name: &str) -> Result<Option<String>, AllocError>
+/// The name, where it can be told as it stands.
+pub fn plain_name(alloc: Global, name: &str) -> Result<Option<String>, AllocError>
     ensures plain { IfOk result (λ told. is_some told ≡ is_plain name.now) }
     ensures text { IfOk result (λ told. IfSome told (λ text. string_bytes text ≡ name.now)) }
 {

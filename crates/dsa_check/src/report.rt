@@ -1,8 +1,8 @@
 //! The lines that are told of the faults of a document.
 
-ghost use Rattle.std.specs.Prelude.{◌≡◌, ◌++◌, IfOk, codes, decimal, string_bytes, flat_map};
+ghost use Rattle.std.specs.Prelude.{◌≡◌, ◌++◌, Some, IfOk, codes, decimal, string_bytes, flat_map, option_map};
 ghost use Rattle.dsa_event_text.specs.Added.{Adds};
-ghost use Rattle.dsa_check.specs.Lines.{digits_text, key_text, whole_range_text, form_text, found_text, bound_text, wanted_of, piece_text, closing_text, wanted_text, syntax_text, near_kind_text, no_kind_text, reason_text, known_number_text, step_text, fault_part_text, place_text, line_of_finding, bare_line, finding_text, report_text};
+ghost use Rattle.dsa_check.specs.Lines.{digits_text, key_text, whole_range_text, form_text, found_text, bound_text, wanted_of, piece_text, closing_text, wanted_text, syntax_text, near_kind_text, no_kind_text, stray_text, twice_text, reason_text, known_number_text, step_text, fault_part_text, place_text, line_of_finding, bare_line, finding_text, report_text, warning_line, warning_text, warnings_text};
 
 use crate::fields::{Found, Key};
 use crate::finding::{Finding, Reason};
@@ -240,6 +240,32 @@ fn add_no_object(text: &mut String, found: Found) -> Added
     text.push_str(" stands here, an object is wanted")
 }
 
+fn add_near_name(text: &mut String, key: &str, near: &str) -> Added
+    ensures { Adds result text.old text.new (stray_text (Some key.now) (Some near.now)) }
+{
+    write!(text, "\"{key}\" is no key here, but \"{near}\" is")
+}
+
+fn add_stray(text: &mut String, key: &Option<String>, near: Option<&'static str>) -> Added
+    ensures { Adds result text.old text.new
+        (stray_text (option_map string_bytes key.now) (option_map (λ name. name.now) near.entry)) }
+{
+    match (key, near) {
+        (Some(key), Some(near)) => add_near_name(text, key.as_str(), near),
+        (Some(key), None) => { write!(text, "\"{key}\" is no key here") }
+        (None, _) => text.push_str("a key that is long or not plain is no key here"),
+    }
+}
+
+fn add_twice(text: &mut String, key: &Option<String>) -> Added
+    ensures { Adds result text.old text.new (twice_text (option_map string_bytes key.now)) }
+{
+    match key {
+        Some(key) => { write!(text, "\"{key}\" comes twice") }
+        None => text.push_str("a key that is long or not plain comes twice"),
+    }
+}
+
 fn add_reason(text: &mut String, reason: &Reason) -> Added
     ensures { Adds result text.old text.new (reason_text reason.now) }
 {
@@ -262,6 +288,8 @@ fn add_reason(text: &mut String, reason: &Reason) -> Added
         Reason::NoDigit { key, at } => add_no_digit(text, *key, *at),
         Reason::NoObject { found } => add_no_object(text, *found),
         Reason::UnknownKind { found, near } => add_kind(text, found, *near),
+        Reason::Stray { found, near } => add_stray(text, found, *near),
+        Reason::Twice { found } => add_twice(text, found),
         Reason::NotUtf8 => text.push_str("the bytes are no UTF-8"),
         Reason::Syntax(syntax) => add_syntax(text, syntax),
     }
@@ -336,13 +364,53 @@ fn add_finding(text: &mut String, finding: &Finding) -> Added
     Ok(())
 }
 
-/// The lines of these findings: one for each reason of each.
-pub fn report_lines(alloc: Global, findings: &[Finding]) -> Result<String, AllocError>
-    ensures { IfOk result (λ text. string_bytes text ≡ report_text findings.now) }
+// The lines of these findings: one for each reason of each.
+fn add_findings(text: &mut String, findings: &[Finding]) -> Added
+    ensures { Adds result text.old text.new (report_text findings.now) }
+{
+    for finding in findings {
+        add_finding(text, finding)?;
+    }
+    Ok(())
+}
+
+fn add_warning_line(text: &mut String, finding: &Finding, reason: &Reason) -> Added
+    ensures { Adds result text.old text.new (warning_line finding.now reason.now) }
+{
+    text.push_str("warning: ")?;
+    add_line(text, finding, reason)
+}
+
+fn add_warning(text: &mut String, finding: &Finding) -> Added
+    ensures { Adds result text.old text.new (warning_text finding.now) }
+{
+    for reason in &finding.reasons {
+        add_warning_line(text, finding, reason)?;
+    }
+    Ok(())
+}
+
+// The lines of these warnings: one for each reason of each.
+fn add_warnings(text: &mut String, warnings: &[Finding]) -> Added
+    ensures { Adds result text.old text.new (warnings_text warnings.now) }
+{
+    for warning in warnings {
+        add_warning(text, warning)?;
+    }
+    Ok(())
+}
+
+/// The lines of these faults, and after them those of these warnings.
+pub fn report_lines(
+    alloc: Global,
+    faults: &[Finding],
+    warnings: &[Finding],
+) -> Result<String, AllocError>
+    ensures { IfOk result
+        (λ text. string_bytes text ≡ report_text faults.now ++ warnings_text warnings.now) }
 {
     let mut text = String::new(alloc);
-    for finding in findings {
-        add_finding(&mut text, finding)?;
-    }
+    add_findings(&mut text, faults)?;
+    add_warnings(&mut text, warnings)?;
     Ok(text)
 }

@@ -22,7 +22,7 @@ ghost use Rattle.dsa_check.specs.Places.{line_after, column_after, IsSpot, Begin
 ghost use Rattle.dsa_check.specs.Reasons.{is_asked, is_between, is_of_form, is_plain, has_caps, is_step, kind_row, found_number, found_of, digits_reason, text_reason, IsReasonOf, IsStrayKey, HasStrayKey, IsKindReason, AreReasonsOf, AreStepReasons};
 ghost use Rattle.dsa_scenario.specs.{Fields.{bits}, Actions.{kinds, rows_of_kind, names_text}};
 ghost use Rattle.dsa_check.specs.Tables.{document_rows, caps_rows, device_rows, history_rows};
-ghost use Rattle.dsa_check.specs.Worked.{IsNoReason, IsUntold, right_document, unfit_keys, unfit_keys_of, key_of_caps, key_of_a_step, found_at, document_of_slots, document_of_null, document_without_slots, right_text};
+ghost use Rattle.dsa_check.specs.Worked.{plain_check, IsNoReason, IsUntold, right_document, unfit_keys, unfit_keys_of, key_of_caps, key_of_a_step, found_at, document_of_slots, document_of_null, document_without_slots, right_text};
 
 /// Each part of a document has its fault; the others are looked at also where one is missing.
 pub fn faults_of_each_part()
@@ -572,10 +572,11 @@ pub fn faults_of_texts()
     ensures right { IsRight right_text }
     ensures no_document { IsRight (codes "{}") → ⊥ }
     ensures no_device { IsRight (document_text no_caps_text (codes "9") []) → ⊥ }
-    ensures report { IsCheckReportOf right_text None [] }
-    ensures right_with_a_fault { IsCheckReportOf right_text (Some BadCaps) [] → ⊥ }
-    ensures right_with_a_line { IsCheckReportOf right_text None (codes "1") → ⊥ }
-    ensures second_untold { IsCheckReportOf (document_text no_caps_text (codes "1048577") [])
+    ensures report { IsCheckReportOf plain_check right_text None [] }
+    ensures right_with_a_fault { IsCheckReportOf plain_check right_text (Some BadCaps) [] → ⊥ }
+    ensures right_with_a_line { IsCheckReportOf plain_check right_text None (codes "1") → ⊥ }
+    ensures second_untold { IsCheckReportOf plain_check
+        (document_text no_caps_text (codes "1048577") [])
         (Some BadCaps)
         (codes "caps: \"queues\" is 0, at least 1 is wanted\n")
         → ⊥ }

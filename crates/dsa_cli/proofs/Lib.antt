@@ -1,5 +1,6 @@
 pub mod Accepted
 pub mod FewNumbers
+pub mod OnTheWay
 pub mod OptionNumbers
 pub mod PlainRuns
 pub mod Pushes

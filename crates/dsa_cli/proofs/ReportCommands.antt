@@ -26,6 +26,8 @@ names_nothing words (asked.Report report) nothing is =
 names_nothing words asked.Serve nothing is = absurd (no_name words (codes "serve") nothing is.1)
 names_nothing words (asked.Threads load) nothing is =
     absurd (no_name words (codes "threads") nothing (ap (option_map (λ (f : Text × List Row). f.0)) is.1.1))
+names_nothing words (asked.HighThreshold load) nothing is =
+    absurd (no_name words (codes "threads") nothing (ap (option_map (λ (f : Text × List Row). f.0)) is.0.1.1))
 
 -- words that are none, or name nothing, ask for nothing else
 pub not_asked : {A : Type 0} (words : List Text) (count : ℕ) (asks is : Asked) → AsksFor words asks

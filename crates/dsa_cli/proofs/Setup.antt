@@ -1,6 +1,6 @@
 -- What the receipts of the steps that set a device up tell of their answers.
 use Rattle.dsa_book.specs.declared.answer.Reply.TheVariants as reply
-use Rattle.std.proofs.Common.{◌≡◌, ℕ, ◌+◌, ◌≤◌, Bool, true, false, cond, List, [], ◌∷◌, ◌++◌, length, drop, get_or}
+use Rattle.std.proofs.Common.{◌≡◌, ◌+◌, ◌≤◌, Bool, true, false, cond, List, [], ◌∷◌, ◌++◌, length, drop, get_or}
 use Rattle.std.proofs.Common.{refl, sym, ap, ◌∙◌, arith, length-append}
 use Rattle.std.proofs.lemmas.List.{length_push, drop_at}
 use Rattle.dsa_book.specs.declared.answer.{IssueAnswer.{IssueAnswer, TheVariants.{Ended}}, Reply.{Reply}}
@@ -8,7 +8,7 @@ use Rattle.dsa_book.specs.declared.answer.WriteAnswer.{WriteAnswer, TheVariants.
 use Rattle.dsa_book.specs.declared.event.{Event.{Event}, Step.{Step}}
 use Rattle.dsa_book.specs.Machine.{is_stored}
 use Rattle.dsa_shared.specs.Seat.{with_step}
-use Rattle.dsa_cli.specs.Threads.{setup_steps}
+use Rattle.dsa_cli.specs.{declared.options.Workload.{Workload}, Threads.{setup_steps}}
 
 -- a list with one more step, or without it
 abbrev pushed : Bool → List Step → Step → List Step
@@ -56,12 +56,12 @@ issue_of (reply.Issue answer) = answer
 issue_of _ = Ended 0
 
 -- where the receipts of four steps are those of the set-up, each of its steps was done
-pub were_done : (n : ℕ) (old : List Step) (e f g h : Event) (a b : WriteAnswer) (c d : IssueAnswer)
+pub were_done : (load : Workload) (old : List Step) (e f g h : Event) (a b : WriteAnswer) (c d : IssueAnswer)
     (one two three four : List Step) → one ≡ with_step old e (reply.Write a) → two ≡ with_step one f (reply.Write b)
     → three ≡ with_step two g (reply.Issue c) → four ≡ with_step three h (reply.Issue d)
-    → four ≡ old ++ setup_steps n
+    → four ≡ old ++ setup_steps load
     → (a ≡ Written) × (b ≡ Written) × (c ≡ Ended 0) × (d ≡ Ended 0)
-were_done n old e f g h a b c d one two three four p q r s is =
+were_done load old e f g h a b c d one two three four p q r s is =
     let w : Step = record { event = e; reply = reply.Write a } in
     let x : Step = record { event = f; reply = reply.Write b } in
     let y : Step = record { event = g; reply = reply.Issue c } in
@@ -69,13 +69,13 @@ were_done n old e f g h a b c d one two three four p q r s is =
     let second = q ∙ ap (λ (l : List Step). with_step l f (reply.Write b)) p in
     let third = r ∙ ap (λ (l : List Step). with_step l g (reply.Issue c)) second in
     let whole = sym (s ∙ ap (λ (l : List Step). with_step l h (reply.Issue d)) third) ∙ is in
-    let len = ap (λ (l : List Step). length l) whole ∙ length-append old (setup_steps n) in
+    let len = ap (λ (l : List Step). length l) whole ∙ length-append old (setup_steps load) in
     let there = all_there (is_stored (reply.Write a)) (is_stored (reply.Write b)) (is_stored (reply.Issue c))
     (is_stored (reply.Issue d)) old w x y z len in
-    let same : ◌≡◌ {A = List Step} (w ∷ x ∷ y ∷ z ∷ []) (setup_steps n) =
+    let same : ◌≡◌ {A = List Step} (w ∷ x ∷ y ∷ z ∷ []) (setup_steps load) =
     sym (drop_at old (w ∷ x ∷ y ∷ z ∷ []) (length old) refl)
     ∙ ap (λ (l : List Step). drop (length old) l) (sym there ∙ whole)
-    ∙ drop_at old (setup_steps n) (length old) refl in (
+    ∙ drop_at old (setup_steps load) (length old) refl in (
       ap (λ (l : List Step). write_of (get_or l 0 w).reply) same,
       ap (λ (l : List Step). write_of (get_or l 1 w).reply) same,
       ap (λ (l : List Step). issue_of (get_or l 2 w).reply) same,

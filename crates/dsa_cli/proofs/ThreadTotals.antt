@@ -69,9 +69,9 @@ filter_kept p (step ∷ steps) all =
     ∙ ap (λ (l : List Step). step ∷ l) (filter_kept p steps (λ k d lt. all (suc k) d (omega (arith, lt))))
 
 -- where the first four steps are the administrator's, they are all that it made to set the device up
-pub setup_comes_first : (engines : ℕ) (history : List Step) → steps_of_actor history Admin ≡ setup_steps engines
-    → All (λ step. actor_of step.event ≡ Admin) (take 4 history) → take 4 history ≡ setup_steps engines
-setup_comes_first engines history own admins =
+pub setup_comes_first : (load : Workload) (history : List Step) → steps_of_actor history Admin ≡ setup_steps load
+    → All (λ step. actor_of step.event ≡ Admin) (take 4 history) → take 4 history ≡ setup_steps load
+setup_comes_first load history own admins =
     let p = λ (step : Step). same_actor (actor_of step.event) Admin in
     let kept = filter_kept p (take 4 history) (λ k d lt. ap (λ (a : Actor). same_actor a Admin) (admins k d lt)) in
     let split : steps_of_actor history Admin ≡ take 4 history ++ filter p (drop 4 history) =
@@ -98,7 +98,7 @@ pub have_worked : (caps : Caps) (capacity : ℕ) (load : Workload) (scripts : Sc
     (admin new-admin : Option (List Step))
     (setup : List Step) (stint engine-stint : ℕ → Stint) (last : Stint)
     → AllFresh load.clients old → AllFresh load.engines old-engines → AreScriptsOf load scripts
-    → admin ≡ Some setup → setup ≡ setup_steps load.engines → length new ≡ length old
+    → admin ≡ Some setup → setup ≡ setup_steps load → length new ≡ length old
     → length new-engines ≡ length old-engines
     → ((k : ℕ) (d : SeatLog) (e : _) → k < length old
     → RunsClient caps capacity (get_or scripts.clients.items k e).items load.turns
@@ -182,7 +182,7 @@ have_worked caps capacity load scripts old new old-engines new-engines admin new
 pub totals_of-worked : (caps : Caps) (capacity : ℕ) (load : Workload) (t : Totals) (d : Running)
     (clients engines : List SeatLog) (admin : Option (List Step))
     → HaveWorked caps capacity load clients engines admin
-    → caps ≡ caps_for load.engines → capacity ≡ capacity_for load → d.caps ≡ caps → IsReplay d
+    → caps ≡ caps_for load → capacity ≡ capacity_for load → d.caps ≡ caps → IsReplay d
     → Match d.history clients engines admin
     → t ≡ totals_of d.history (held_count d.state.work.content) → AreSums t clients engines admin
     → Balance t d.state.work
@@ -190,7 +190,7 @@ pub totals_of-worked : (caps : Caps) (capacity : ℕ) (load : Workload) (t : Tot
     → AreTotalsOf load t
 totals_of-worked caps capacity load t d clients engines admin worked same-caps same-capacity of-caps whole match
     counted sums balance admins some =
-    let w = subst (λ n. HaveWorked (caps_for load.engines) n load clients engines admin) same-capacity
+    let w = subst (λ n. HaveWorked (caps_for load) n load clients engines admin) same-capacity
     (subst (λ c. HaveWorked c capacity load clients engines admin) same-caps worked) in
     let known = of-caps ∙ same-caps in
     let receipts : receipts_in admin ≡ steps_of_actor d.history Admin = ap (λ a. receipts_in a) match.admin_receipts in
@@ -202,7 +202,7 @@ totals_of-worked caps capacity load t d clients engines admin worked same-caps s
       replayed = subst (λ c. replay c d.history ≡ Some d.state) known whole.replayed;
       within = omega (arith, most, ap (λ (x : Totals). x.steps) counted);
       setup = sym receipts ∙ w.setup;
-      setup_first = setup_comes_first load.engines d.history (sym receipts ∙ w.setup) admins;
+      setup_first = setup_comes_first load d.history (sym receipts ∙ w.setup) admins;
       submitted = λ k lt.
           let seat = get_or clients k (fresh 0) in
           let steps : seat.receipts ≡ steps_of_actor d.history (Client k) =
@@ -221,7 +221,7 @@ totals_of-worked caps capacity load t d clients engines admin worked same-caps s
           ∙ ap (λ n. steps_of_actor d.history (Client n)) (w.numbers k (fresh 0) lt) in
           let same : seat ≡ record { number = k; receipts = steps_of_actor d.history (Client k) } =
           ap₂ (λ (n : ℕ) (r : List Step). record { number = n; receipts = r }) (w.numbers k (fresh 0) lt) steps in
-          subst (λ s. RanAsClient (caps_for load.engines) (capacity_for load) load k s) same (w.client_runs k (fresh 0) lt);
+          subst (λ s. RanAsClient (caps_for load) (capacity_for load) load k s) same (w.client_runs k (fresh 0) lt);
       engine_runs = λ k lt.
           let seat = get_or engines k (fresh 0) in
           let ran = w.engine_runs k (fresh 0) lt in
@@ -231,5 +231,5 @@ totals_of-worked caps capacity load t d clients engines admin worked same-caps s
           ∙ ap (λ n. steps_of_actor d.history (Engine n)) number in
           let same : seat ≡ record { number = k; receipts = steps_of_actor d.history (Engine k) } =
           ap₂ (λ (n : ℕ) (r : List Step). record { number = n; receipts = r }) number steps in
-          subst (λ s. RanAsEngine (caps_for load.engines) (capacity_for load) load k s) same ran;
+          subst (λ s. RanAsEngine (caps_for load) (capacity_for load) load k s) same ran;
     }

@@ -1,7 +1,8 @@
 -- The words of the command line, by clap's own definitions of what words say.
 use Rattle.dsa_cli.specs.declared.reports.Report.TheVariants as report
 use Rattle.dsa_cli.specs.declared.options.Asked.TheVariants as asked
-use Rattle.std.specs.Prelude.{◌≡◌, ◌≢◌, ◌⊎◌, ◌<◌, ◌≤◌, ℕ, pos, true, List, [], ◌∷◌, length, take, codes, Option, Some, None}
+use Rattle.std.specs.Prelude.{◌≡◌, ◌≢◌, ◌⊎◌, ◌<◌, ◌≤◌, ℕ, pos, true, false, List, [], ◌∷◌, ◌++◌, length, take, codes, decimal}
+use Rattle.std.specs.Prelude.{Option, Some, None}
 use Rattle.std.specs.Prelude.{option_map}
 use Rattle.std.specs.Io.KnownBytes.{Consumes, IsAtEnd, Appends}
 use Rattle.std.specs.Str.Parse.{IsNumeral, digits_value, without_leading_plus}
@@ -13,29 +14,35 @@ use Rattle.clap.specs.Simple.{App, new_app, new_rule, on_top, subcommand_of, wit
 use Rattle.dsa_shared.specs.declared.settle.Totals.{Totals}
 use Rattle.dsa_scenario.specs.declared.faults.ScenarioFault.{ScenarioFault}
 use Rattle.dsa_trace.specs.declared.form.Trace.{Trace, TheVariants.{Table, Json}}
+use Rattle.dsa_check.specs.declared.checking.Check.{Check}
 use Rattle.dsa_serve.specs.Dialogue.{AnswersAll}
-use Rattle.dsa_cli.specs.Reports.{IsReported, IsReportCutShort}
+use Rattle.dsa_cli.specs.Reports.{IsReported, IsReportCutShort, IsReportBegun}
 use Rattle.dsa_cli.specs.declared.reports.Report.{Report}
 use Rattle.dsa_cli.specs.Threads.{IsInRange, AreTotalsOf, totals_text}
-use Rattle.dsa_cli.specs.declared.options.{Workload.{Workload}, Asked.{Asked, TheVariants.{Scenario, Serve, Threads}}}
+use Rattle.dsa_cli.specs.declared.options.{Workload.{Workload}, Asked.{Asked, TheVariants.{Scenario, Serve, Threads, HighThreshold}}}
 
--- the option `--name`, whose value is a number from 1 to `most`, and `default` where it is not given
-abbrev pub number_rule : Text → ℕ → Text → Rule
-number_rule name most default = record (new_rule name) {
+-- the option `--name`, whose value is a number from `least` to `most`, and `default` where it is not given
+abbrev pub number_rule : Text → ℕ → ℕ → Text → Rule
+number_rule name least most default = record (new_rule name) {
   long = Some name;
   value_names = 1;
   defaults = default ∷ [];
-  parser = Some (Signed (pos 1) (pos most));
+  parser = Some (Signed (pos least) (pos most));
 }
 
 -- `threads`, with its options (profile)
 abbrev pub threads_app : App
 threads_app =
-    with_rule (with_rule (with_rule (with_rule (new_app (codes "threads"))
-    (number_rule (codes "clients") 16 (codes "2")))
-    (number_rule (codes "engines") 8 (codes "2")))
-    (number_rule (codes "each") 1_000 (codes "100")))
-    (number_rule (codes "turns") 40_000 (codes "10000"))
+    with_rule (with_rule (with_rule (with_rule (with_rule (with_rule (with_rule (with_rule
+    (new_app (codes "threads"))
+    (number_rule (codes "clients") 1 16 (codes "2")))
+    (number_rule (codes "engines") 1 8 (codes "2")))
+    (number_rule (codes "each") 1 1_000 (codes "100")))
+    (number_rule (codes "turns") 1 40_000 (codes "10000")))
+    (number_rule (codes "size") 1 1_024 (codes "16")))
+    (number_rule (codes "threshold") 1 1_024 (codes "8")))
+    (number_rule (codes "slots") 1 16 (codes "4")))
+    (number_rule (codes "buffers") 4 255 (codes "32"))
 
 -- the option `--name`, which has no value
 abbrev pub flag_rule : Text → Rule
@@ -45,6 +52,10 @@ flag_rule name = record (new_rule name) { long = Some name; action = Some SetTru
 abbrev pub trace_app : App
 trace_app = with_rule (new_app (codes "trace")) (flag_rule (codes "json"))
 
+-- `check`, with its option (profile)
+abbrev pub check_app : App
+check_app = with_rule (new_app (codes "check")) (flag_rule (codes "strict"))
+
 -- the program, by the words after its name; it has a version (profile)
 abbrev pub top_app : App
 top_app = on_top (λ top. record top { no_binary_name = true; has_version = true }) (new_app (codes "dsa_run"))
@@ -53,18 +64,13 @@ top_app = on_top (λ top. record top { no_binary_name = true; has_version = true
 abbrev pub program_app : App
 program_app =
     with_subcommand (with_subcommand (with_subcommand (with_subcommand (with_subcommand (with_subcommand
-    (with_subcommand top_app (new_app (codes "check")).top) (new_app (codes "explain")).top)
+    (with_subcommand top_app check_app.top) (new_app (codes "explain")).top)
     trace_app.top) (new_app (codes "draw")).top) (new_app (codes "conform")).top) (new_app (codes "serve")).top)
     threads_app.top
 
--- what is wrong with the words, if anything; to ask for help counts too
+-- what clap finds wrong with the words, if anything; to ask for help counts too
 abbrev pub faults_of_words : List Text → Kinds
 faults_of_words words = fault_of program_app words
-
--- something is wrong with the words
-abbrev pub IsMistaken : List Text → Type 0
-IsMistaken words = (kind : ErrorKind) × IsAmong kind (faults_of_words words) × (kind ≢ DisplayHelp)
-    × (kind ≢ DisplayVersion)
 
 -- nothing is wrong with the words, or they ask for help or for the version
 abbrev pub IsUnderstood : List Text → Type 0
@@ -75,18 +81,41 @@ IsUnderstood words = (faults_of_words words ≡ []) ⊎ IsAmong DisplayHelp (fau
 abbrev pub NameThreads : List Text → List Row → Type 0
 NameThreads words rows = (faults_of_words words ≡ []) × (subcommand_of program_app words ≡ Some (codes "threads", rows))
 
--- the text that the option has reads as n, where it reads as a number from 1 to `most`
-abbrev pub IsNumberOf : List Row → Text → ℕ → ℕ → Type 0
-IsNumberOf rows name most n = (text : Text) → one_of name rows ≡ Some text
-    → IsNumeral 10 (without_leading_plus text) → 1 ≤ digits_value 10 (without_leading_plus text)
+-- the text that the option has reads as n, where it reads as a number from `least` to `most`
+abbrev pub IsNumberOf : List Row → Text → ℕ → ℕ → ℕ → Type 0
+IsNumberOf rows name least most n = (text : Text) → one_of name rows ≡ Some text
+    → IsNumeral 10 (without_leading_plus text) → least ≤ digits_value 10 (without_leading_plus text)
     → digits_value 10 (without_leading_plus text) ≤ most → n ≡ digits_value 10 (without_leading_plus text)
 
 -- the numbers are those that the options have in these matches
 pub record AreNumbersOf (rows : List Row) (load : Workload) : Type 0 where
-  pub clients : IsNumberOf rows (codes "clients") 16 load.clients
-  pub engines : IsNumberOf rows (codes "engines") 8 load.engines
-  pub each : IsNumberOf rows (codes "each") 1_000 load.each
-  pub turns : IsNumberOf rows (codes "turns") 40_000 load.turns
+  pub clients : IsNumberOf rows (codes "clients") 1 16 load.clients
+  pub engines : IsNumberOf rows (codes "engines") 1 8 load.engines
+  pub each : IsNumberOf rows (codes "each") 1 1_000 load.each
+  pub turns : IsNumberOf rows (codes "turns") 1 40_000 load.turns
+  pub size : IsNumberOf rows (codes "size") 1 1_024 load.size
+  pub threshold : IsNumberOf rows (codes "threshold") 1 1_024 load.threshold
+  pub slots : IsNumberOf rows (codes "slots") 1 16 load.slots
+  pub buffers : IsNumberOf rows (codes "buffers") 4 255 load.buffers
+
+-- the words ask for workers by these numbers, and nothing else is wrong with them
+abbrev pub AskForWorkers : List Text → Workload → Type 0
+AskForWorkers words load = (rows : List Row) × NameThreads words rows × AreNumbersOf rows load
+
+-- they ask for a threshold above the size (profile)
+abbrev pub AskHighThreshold : List Text → Workload → Type 0
+AskHighThreshold words load = AskForWorkers words load × (load.size < load.threshold)
+
+-- what is said of it (profile)
+abbrev pub high_threshold_text : Workload → List ℕ
+high_threshold_text load = codes "error: invalid value '" ++ decimal load.threshold
+    ++ codes "' for '--threshold <NUMBER>': " ++ decimal load.threshold ++ codes " is above the size, "
+    ++ decimal load.size ++ codes "\n\nFor more information, try '--help'.\n"
+
+-- something is wrong with the words
+abbrev pub IsMistaken : List Text → Type 0
+IsMistaken words = ((kind : ErrorKind) × IsAmong kind (faults_of_words words) × (kind ≢ DisplayHelp)
+    × (kind ≢ DisplayVersion)) ⊎ ((load : Workload) × AskHighThreshold words load)
 
 -- what was written is the totals of a run of workers with these numbers
 abbrev pub AreTotalsWritten : List Row → Option (List ℕ) → Option (List ℕ) → Type 0
@@ -106,9 +135,14 @@ pub record IsFormOf (rows : List Row) (form : Trace) : Type 0 where
   pub json : one_of (codes "json") rows ≡ Some (codes "true") → form ≡ Json
   pub table : one_of (codes "json") rows ≡ Some (codes "false") → form ≡ Table
 
+-- warnings count as faults where the option `--strict` asks for that
+pub record IsCheckOf (rows : List Row) (check : Check) : Type 0 where
+  pub strict : one_of (codes "strict") rows ≡ Some (codes "true") → check.is_strict ≡ true
+  pub lenient : one_of (codes "strict") rows ≡ Some (codes "false") → check.is_strict ≡ false
+
 -- the command with these matches asks for the report (profile)
 abbrev pub IsAskedBy : Text × List Row → Report → Type 0
-IsAskedBy found report.Check = found.0 ≡ codes "check"
+IsAskedBy found (report.Check check) = (found.0 ≡ codes "check") × IsCheckOf found.1 check
 IsAskedBy found report.Explain = found.0 ≡ codes "explain"
 IsAskedBy found (report.Trace form) = (found.0 ≡ codes "trace") × IsFormOf found.1 form
 IsAskedBy found report.Draw = found.0 ≡ codes "draw"
@@ -137,6 +171,12 @@ abbrev pub IsReportCut : Text × List Row → Option (List ℕ) → Option (List
 IsReportCut found had left held holds =
     (report : Report) × IsAskedBy found report × IsReportCutShort report had left held holds
 
+-- only whole rows of it were written
+abbrev pub IsReportLeft : Text × List Row → Option (List ℕ) → Option (List ℕ) → Option (List ℕ) → Option (List ℕ)
+    → Type 0
+IsReportLeft found had left held holds =
+    (report : Report) × IsAskedBy found report × IsReportBegun report had left held holds
+
 -- ---- what is asked
 
 -- the command that the words name
@@ -156,10 +196,11 @@ abbrev pub IsServed : Option (List ℕ) → Option (List ℕ) → Option (List �
 IsServed had left held holds = (input : List ℕ) × (output : List ℕ) × Consumes had left input × IsAtEnd left
     × AnswersAll input output × Appends held holds output
 
--- what the words ask for: workers, a report, a dialogue, or else a scenario
+-- what the words ask for: workers, of whom it may be too much, a report, a dialogue, or else a scenario
 abbrev pub AsksFor : List Text → Asked → Type 0
 AsksFor words Scenario = (name : Text) → IsReportName name ⊎ (name ≡ codes "serve") ⊎ (name ≡ codes "threads")
     → command_in words ≢ Some name
 AsksFor words (asked.Report report) = (found : Text × List Row) × NameReport words found × IsAskedBy found report
 AsksFor words Serve = NameServe words
-AsksFor words (Threads load) = (rows : List Row) × NameThreads words rows × AreNumbersOf rows load
+AsksFor words (Threads load) = AskForWorkers words load
+AsksFor words (HighThreshold load) = AskHighThreshold words load

@@ -27,6 +27,15 @@ abbrev pub IsStoppedBy : {W : Type 0} → ScenarioFault
 IsStoppedBy fault cut had left contents old new = HasFault had left fault × (fault ≢ Write → new ≡ old)
     × (fault ≡ Write → cut had left (contents old) (contents new))
 
+-- the same of a text that is written on the way: for want of memory `begun` may say what the writer holds
+abbrev pub IsStoppedOnTheWay : {W : Type 0} → ScenarioFault
+    → (Option (List ℕ) → Option (List ℕ) → Option (List ℕ) → Option (List ℕ) → Type 0)
+    → (Option (List ℕ) → Option (List ℕ) → Option (List ℕ) → Option (List ℕ) → Type 0)
+    → Option (List ℕ) → Option (List ℕ) → (W → Option (List ℕ)) → W → W → Type 0
+IsStoppedOnTheWay fault cut begun had left contents old new = HasFault had left fault
+    × (fault ≢ Write → (new ≡ old) ⊎ (fault ≡ OutOfMemory) × begun had left (contents old) (contents new))
+    × (fault ≡ Write → cut had left (contents old) (contents new))
+
 -- what clap says was not written: for want of memory, or because the writer refused it
 abbrev pub IsUnwritten : {W : Type 0} → ScenarioFault → WatchedWriter W → WatchedWriter W → Type 0
 IsUnwritten fault old new = (fault ≡ OutOfMemory) × (new ≡ old) ⊎ (fault ≡ Write) × (has_refused new ≡ true)

@@ -18,7 +18,7 @@ use Rattle.dsa_workers.specs.declared.scripts.{ClientStep.{ClientStep}, EngineSc
 use Rattle.dsa_workers.specs.declared.scripts.{Scripts.{Scripts}, Stint.{Stint}, WorkerEnd.TheVariants.{HistoryFull}}
 use Rattle.dsa_workers.specs.Workers.{receipts_in, RunsClient, RunsEngine}
 use Rattle.dsa_cli.specs.declared.threads.ThreadsFault.{ThreadsFault, TheVariants.{SettleRefused, Write, OutOfMemory}}
-use Rattle.dsa_cli.specs.declared.options.{Workload.{Workload}, Asked.{Asked, TheVariants.{Scenario, Report, Serve, Threads}}}
+use Rattle.dsa_cli.specs.declared.options.{Workload.{Workload}, Asked.{Asked, TheVariants.{Scenario, Report, Serve, Threads, HighThreshold}}}
 use Rattle.dsa_scenario.specs.Lines.{line_of_text}
 
 -- ---- what is asked
@@ -29,23 +29,28 @@ pub record IsInRange (load : Workload) : Type 0 where
   pub engines : (1 ≤ load.engines) × (load.engines ≤ 8)
   pub each : (1 ≤ load.each) × (load.each ≤ 1_000)
   pub turns : (1 ≤ load.turns) × (load.turns ≤ 40_000)
+  pub size : (1 ≤ load.size) × (load.size ≤ 1_024)
+  pub threshold : (1 ≤ load.threshold) × (load.threshold ≤ load.size)
+  pub slots : (1 ≤ load.slots) × (load.slots ≤ 16)
+  pub buffers : (4 ≤ load.buffers) × (load.buffers ≤ 255)
 
 abbrev pub IsAskedInRange : Asked → Type 0
 IsAskedInRange Scenario = ⊤
 IsAskedInRange (Report report) = ⊤
 IsAskedInRange Serve = ⊤
 IsAskedInRange (Threads load) = IsInRange load
+IsAskedInRange (HighThreshold load) = ⊤
 
 -- ---- the device (profile)
 
-abbrev pub caps_for : ℕ → Caps
-caps_for engines = record {
+abbrev pub caps_for : Workload → Caps
+caps_for load = record {
   queues = 1;
   groups = 1;
-  engines = engines;
-  total_size = 16;
-  read_buffers = 32;
-  slots = 4;
+  engines = load.engines;
+  total_size = load.size;
+  read_buffers = load.buffers;
+  slots = load.slots;
   max_batch_shift = 3;
   max_xfer_shift = 20;
 }
@@ -54,10 +59,10 @@ caps_for engines = record {
 abbrev pub capacity_for : Workload → ℕ
 capacity_for load = (load.clients + load.engines + 1) * load.turns + 4
 
-abbrev pub queue_config : QueueConfig
-queue_config = record {
-  size = 16;
-  threshold = 8;
+abbrev pub queue_config : Workload → QueueConfig
+queue_config load = record {
+  size = load.size;
+  threshold = load.threshold;
   dedicated = false;
   priority = 1;
   pasid = 0;
@@ -65,15 +70,15 @@ queue_config = record {
   max_xfer_shift = 20;
 }
 
--- the group of queue 0 and all engines
-abbrev pub group_config : ℕ → GroupConfig
-group_config engines = record { queues = 1; engines = 2 ^ engines - 1; reserved = 0; allowed = 32 }
+-- the group of queue 0 and all engines, which has all read buffers
+abbrev pub group_config : Workload → GroupConfig
+group_config load = record { queues = 1; engines = 2 ^ load.engines - 1; reserved = 0; allowed = load.buffers }
 
 -- the receipts of an administrator who has set the device up (profile)
-abbrev pub setup_steps : ℕ → List Step
-setup_steps engines =
-    record { event = WriteQueue 0 queue_config; reply = reply.Write Written } ∷
-    record { event = WriteGroup 0 (group_config engines); reply = reply.Write Written } ∷
+abbrev pub setup_steps : Workload → List Step
+setup_steps load =
+    record { event = WriteQueue 0 (queue_config load); reply = reply.Write Written } ∷
+    record { event = WriteGroup 0 (group_config load); reply = reply.Write Written } ∷
     record { event = Issue EnableDevice; reply = reply.Issue (Ended 0) } ∷
     record { event = Issue (EnableWq 0); reply = reply.Issue (Ended 0) } ∷ []
 
@@ -133,7 +138,7 @@ pub record HaveWorked (caps : Caps) (capacity : ℕ) (load : Workload) (clients 
   pub numbers : (c : ℕ) (d : SeatLog) → c < load.clients → (slice_index_or clients c d).number ≡ c
   pub submitted : (c : ℕ) (d : SeatLog) → c < load.clients
       → All (λ step. step.event ≡ submission_of c) (slice_index_or clients c d).receipts
-  pub setup : receipts_in admin ≡ setup_steps load.engines
+  pub setup : receipts_in admin ≡ setup_steps load
   pub client_runs : (c : ℕ) (d : SeatLog) → c < load.clients
       → RanAsClient caps capacity load c (slice_index_or clients c d)
   pub engine_runs : (e : ℕ) (d : SeatLog) → e < load.engines
@@ -171,18 +176,18 @@ totals_text t =
 pub record AreTotalsOf (load : Workload) (totals : Totals) : Type 0 where
   pub history : List Step
   pub last : State
-  pub legal : is_legal (caps_for load.engines) history ≡ true
-  pub replayed : replay (caps_for load.engines) history ≡ Some last
+  pub legal : is_legal (caps_for load) history ≡ true
+  pub replayed : replay (caps_for load) history ≡ Some last
   pub within : length history ≤ capacity_for load
-  pub setup : steps_of_actor history Admin ≡ setup_steps load.engines
-  pub setup_first : take 4 history ≡ setup_steps load.engines
+  pub setup : steps_of_actor history Admin ≡ setup_steps load
+  pub setup_first : take 4 history ≡ setup_steps load
   pub submitted : (c : ℕ) → c < load.clients → All (λ step. step.event ≡ submission_of c)
       (steps_of_actor history (Client c))
   pub counted : totals ≡ totals_of history (held_count last.work.content)
   pub balanced : totals.accepted + totals.fetched ≡ totals.done + totals.lost + totals.held
   pub accepted : totals.accepted ≤ load.clients * load.each
   pub accepted_one : 1 ≤ totals.accepted
-  pub client_runs : (c : ℕ) → c < load.clients → RanAsClient (caps_for load.engines) (capacity_for load) load c
+  pub client_runs : (c : ℕ) → c < load.clients → RanAsClient (caps_for load) (capacity_for load) load c
       (record { number = c; receipts = steps_of_actor history (Client c) })
-  pub engine_runs : (e : ℕ) → e < load.engines → RanAsEngine (caps_for load.engines) (capacity_for load) load e
+  pub engine_runs : (e : ℕ) → e < load.engines → RanAsEngine (caps_for load) (capacity_for load) load e
       (record { number = e; receipts = steps_of_actor history (Engine e) })

@@ -28,6 +28,26 @@ two_retries =
 abbrev pub move_under : ℕ → ClientStep
 move_under pasid = record { queue = 0; portal = Limited; kind = Enqcmd pasid; bytes = page_move_bytes }
 
+-- ---- numbers of options
+
+-- so many workers on the device that is taken where nothing is said of it
+abbrev pub load : ℕ → ℕ → ℕ → ℕ → Workload
+load clients engines each turns = record {
+  clients = clients;
+  engines = engines;
+  each = each;
+  turns = turns;
+  size = 16;
+  threshold = 8;
+  slots = 4;
+  buffers = 32;
+}
+
+-- two clients and three engines on a device of these sizes
+abbrev pub sized : ℕ → ℕ → ℕ → ℕ → Workload
+sized size threshold slots buffers =
+    record (load 2 3 5 7) { size = size; threshold = threshold; slots = slots; buffers = buffers }
+
 -- ---- a run of one client and two engines
 
 -- a submission of client 0, which was accepted with a ticket of this cell and name
@@ -47,7 +67,7 @@ entry_worked_off engine cell name =
 
 -- the history of the run: the first two entries end, and the last one is held
 abbrev pub steps_of_three_moves : List Step
-steps_of_three_moves = setup_steps 2 ++ three_moves ++ entry_worked_off 0 3 0 ++ entry_worked_off 1 5 1
+steps_of_three_moves = setup_steps (load 1 2 3 4) ++ three_moves ++ entry_worked_off 0 3 0 ++ entry_worked_off 1 5 1
 
 -- the seats after it
 abbrev pub client_seats_after : List SeatLog
@@ -60,9 +80,6 @@ engine_seats_after =
 
 -- ---- words
 
-abbrev pub load : ℕ → ℕ → ℕ → ℕ → Workload
-load clients engines each turns = record { clients = clients; engines = engines; each = each; turns = turns }
-
 -- the command `threads` with one option
 abbrev pub threads_with : Text → Text → List Text
 threads_with option value = codes "threads" ∷ option ∷ value ∷ []
@@ -70,6 +87,10 @@ threads_with option value = codes "threads" ∷ option ∷ value ∷ []
 -- the command `trace` with its option
 abbrev pub json_trace : List Text
 json_trace = codes "trace" ∷ codes "--json" ∷ []
+
+-- the command `check` with its option
+abbrev pub strict_words : List Text
+strict_words = codes "check" ∷ codes "--strict" ∷ []
 
 -- the text that the option has by these words
 abbrev pub value_in : List Text → Text → Option Text

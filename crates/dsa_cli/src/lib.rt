@@ -6,6 +6,7 @@
 #![tactic(auto)]
 
 mod options;
+mod pace;
 mod reports;
 pub mod rows;
 mod threads;

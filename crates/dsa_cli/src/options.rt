@@ -1,19 +1,20 @@
 //! The words of the command line, read with `clap`.
 
-ghost use Rattle.std.specs.Prelude.{◌≡◌, ◌≢◌, ◌≤◌, true, false, List, Ok, Some, IfSome, IfNone, IfOk, length, map, option_map, string_bytes};
+ghost use Rattle.std.specs.Prelude.{◌≡◌, ◌≢◌, ◌≤◌, ◌<◌, true, false, List, Ok, Some, IfSome, IfNone, IfOk, length, map, option_map, string_bytes};
 ghost use Rattle.clap.specs.Words.{Row, Text, app_of, rule_of, found_of, rows_of, FailsBy};
 ghost use Rattle.clap.specs.Simple.{new_app, subcommand_rows_of};
 ghost use Rattle.clap.specs.declared.builder.command.Command.TheViews.{out-Command as fields_of};
 ghost use Rattle.dsa_cli.specs.Threads.{IsInRange, IsAskedInRange};
-ghost use Rattle.dsa_cli.specs.CommandLine.{number_rule, flag_rule, threads_app, trace_app, top_app, program_app, IsNumberOf, AreNumbersOf, IsFormOf, IsReportName, IsAskedBy, AsksFor, faults_of_words};
+ghost use Rattle.dsa_cli.specs.CommandLine.{number_rule, flag_rule, threads_app, trace_app, check_app, top_app, program_app, IsNumberOf, AreNumbersOf, IsFormOf, IsCheckOf, IsReportName, IsAskedBy, AsksFor, faults_of_words};
 
 use crate::reports::Report;
 use clap::{Arg, ArgAction, ArgMatches, Command, Error, value_parser};
+use dsa_check::Check;
 use dsa_release::version_text;
 use dsa_trace::Trace;
 use std::alloc::{AllocError, Global};
 
-/// How many workers run in threads, and how long.
+/// How many workers run in threads, and how long, on a device of which sizes.
 #[derive(Clone, Copy, Debug, PartialEq, Eq)]
 pub struct Workload {
     /// 1 to 16.
@@ -24,6 +25,14 @@ pub struct Workload {
     pub each: u32,
     /// How many turns each worker has at most, 1 to 40,000.
     pub turns: u32,
+    /// How many entries the queue holds, 1 to 1,024.
+    pub size: u16,
+    /// How many entries it holds at most by the limited portal, 1 to its size.
+    pub threshold: u16,
+    /// How many entries an engine works on at once, 1 to 16.
+    pub slots: u16,
+    /// The read buffers, 4 to 255.
+    pub buffers: u16,
 }
 
 /// What the words ask for.
@@ -37,6 +46,8 @@ pub enum Asked {
     Serve,
     /// Workers in threads.
     Threads(Workload),
+    /// Such workers with a threshold above the size, which is a usage error.
+    HighThreshold(Workload),
 }
 
 const MOST_CLIENTS: u32 = 16;
@@ -47,6 +58,15 @@ const MOST_EACH: u32 = 1_000;
 
 const MOST_TURNS: u32 = 40_000;
 
+const MOST_ENTRIES: u32 = 1_024;
+
+const MOST_SLOTS: u32 = 16;
+
+/// No group that has engines may have fewer read buffers.
+const LEAST_BUFFERS: u32 = 4;
+
+const MOST_BUFFERS: u32 = 255;
+
 const SCENARIO_HELP: &str = "\
 Without a command: what does the device answer to each step? Reads one scenario document
 (JSON) from standard input, makes its steps on a model of a device, and writes a line for
@@ -56,7 +76,9 @@ Exit status: 0 done, 1 a fault (its line goes to standard error), 2 a usage erro
 
 const CHECK_HELP: &str = "\
 Reads one scenario document (JSON) from standard input, and writes a line for each fault,
-with its place. No step is made. The fault that a run would report goes to standard error.
+with its place, and then a line for each warning: a key that nothing reads, and an \"answer\"
+or a \"zf\" that conform would refuse. No step is made. The fault that a run would report
+goes to standard error. With --strict a warning counts as a fault.
 
 Exit status: 0 no fault, 1 a fault, 2 a usage error.";
 
@@ -107,22 +129,24 @@ accepted + fetched = done + lost + held.
 
 Exit status: 0 done, 1 a fault (its line goes to standard error), 2 a usage error.";
 
-// An option that takes a number from 1 to `most`.
+// An option that takes a number from `least` to `most`.
 fn number_option<'a>(
     alloc: Global,
     name: &'a str,
+    least: u32,
     most: u32,
     default: &'a str,
     help: &'a str,
 ) -> Arg<'a>
-    requires { most ≤ 40_000 }
-    ensures rule { rule_of result ≡ number_rule name.entry.now most default.entry.now }
+    requires least { least ≤ 40_000 }
+    requires most { most ≤ 40_000 }
+    ensures rule { rule_of result ≡ number_rule name.entry.now least most default.entry.now }
     ensures local { result.global ≡ false }
 {
     Arg::new(alloc, name)
         .long(name)
         .value_name("NUMBER")
-        .value_parser(value_parser!(u32).range(1..=i64::from(most)))
+        .value_parser(value_parser!(u32).range(i64::from(least)..=i64::from(most)))
         .default_value(default)
         .help(help)
 }
@@ -137,6 +161,7 @@ fn threads_command<'a>(alloc: Global) -> Result<Command<'a>, AllocError>
         .arg(number_option(
             alloc,
             "clients",
+            1,
             MOST_CLIENTS,
             "2",
             "How many clients submit, 1 to 16",
@@ -144,6 +169,7 @@ fn threads_command<'a>(alloc: Global) -> Result<Command<'a>, AllocError>
         .arg(number_option(
             alloc,
             "engines",
+            1,
             MOST_ENGINES,
             "2",
             "How many engines work, 1 to 8",
@@ -151,6 +177,7 @@ fn threads_command<'a>(alloc: Global) -> Result<Command<'a>, AllocError>
         .arg(number_option(
             alloc,
             "each",
+            1,
             MOST_EACH,
             "100",
             "How many descriptors each client submits, 1 to 1000",
@@ -158,9 +185,42 @@ fn threads_command<'a>(alloc: Global) -> Result<Command<'a>, AllocError>
         .arg(number_option(
             alloc,
             "turns",
+            1,
             MOST_TURNS,
             "10000",
             "How many turns each worker has at most, 1 to 40000",
+        ))?
+        .arg(number_option(
+            alloc,
+            "size",
+            1,
+            MOST_ENTRIES,
+            "16",
+            "How many entries the queue holds, 1 to 1024",
+        ))?
+        .arg(number_option(
+            alloc,
+            "threshold",
+            1,
+            MOST_ENTRIES,
+            "8",
+            "At how many entries it turns clients away, 1 to the size",
+        ))?
+        .arg(number_option(
+            alloc,
+            "slots",
+            1,
+            MOST_SLOTS,
+            "4",
+            "How many entries an engine works on at once, 1 to 16",
+        ))?
+        .arg(number_option(
+            alloc,
+            "buffers",
+            LEAST_BUFFERS,
+            MOST_BUFFERS,
+            "32",
+            "How many read buffers there are, 4 to 255",
         ))
 }
 
@@ -183,6 +243,16 @@ fn trace_command<'a>(alloc: Global) -> Result<Command<'a>, AllocError>
         .about("What does the device hold after each step?")
         .after_help(TRACE_HELP)
         .arg(flag(alloc, "json", "Write a JSON object in each line"))
+}
+
+fn check_command<'a>(alloc: Global) -> Result<Command<'a>, AllocError>
+    ensures app { IfOk result (λ c. app_of c ≡ check_app) }
+    ensures local { IfOk result (λ c. (fields_of c).has_globals ≡ false) }
+{
+    Command::new(alloc, "check")
+        .about("What is wrong with the document, and where?")
+        .after_help(CHECK_HELP)
+        .arg(flag(alloc, "strict", "Count a warning as a fault"))
 }
 
 // A command that takes no options.
@@ -216,13 +286,12 @@ fn top_command<'a>(alloc: Global) -> Result<Command<'a>, AllocError>
 fn command_line<'a>(alloc: Global) -> Result<Command<'a>, AllocError>
     ensures { IfOk result (λ c. app_of c ≡ program_app) }
 {
-    let check = "What is wrong with the document, and where?";
     let explain = "Why was each step answered as it was?";
     let draw = "What does the whole run look like?";
     let conform = "May a device answer as another one was seen to answer?";
     let serve = "What does the device answer to my next step?";
     top_command(alloc)?
-        .subcommand(plain_command(alloc, "check", check, CHECK_HELP))?
+        .subcommand(check_command(alloc)?)?
         .subcommand(plain_command(alloc, "explain", explain, EXPLAIN_HELP))?
         .subcommand(trace_command(alloc)?)?
         .subcommand(plain_command(alloc, "draw", draw, DRAW_HELP))?
@@ -232,24 +301,43 @@ fn command_line<'a>(alloc: Global) -> Result<Command<'a>, AllocError>
 }
 
 // The number of an option, which the parser has checked.
-fn number_of(matches: &ArgMatches<'_>, name: &str, most: u32) -> u32
-    requires { 1 ≤ most }
-    ensures range { (1 ≤ result) × (result ≤ most) }
-    ensures number { IsNumberOf (rows_of (found_of matches.now)) name.now most result }
+fn number_of(matches: &ArgMatches<'_>, name: &str, least: u32, most: u32) -> u32
+    requires { least ≤ most }
+    ensures range { (least ≤ result) × (result ≤ most) }
+    ensures number { IsNumberOf (rows_of (found_of matches.now)) name.now least most result }
 {
-    matches.get_one::<u32>(name).unwrap_or(1).clamp(1, most)
+    matches
+        .get_one::<u32>(name)
+        .unwrap_or(least)
+        .clamp(least, most)
 }
 
 // The numbers of the options of `threads`.
 fn workload_of(given: &ArgMatches<'_>) -> Workload
-    ensures range { IsInRange result }
+    ensures range { result.threshold ≤ result.size → IsInRange result }
     ensures numbers { AreNumbersOf (rows_of (found_of given.now)) result }
 {
     Workload {
-        clients: number_of(given, "clients", MOST_CLIENTS) as u16,
-        engines: number_of(given, "engines", MOST_ENGINES) as u16,
-        each: number_of(given, "each", MOST_EACH),
-        turns: number_of(given, "turns", MOST_TURNS),
+        clients: number_of(given, "clients", 1, MOST_CLIENTS) as u16,
+        engines: number_of(given, "engines", 1, MOST_ENGINES) as u16,
+        each: number_of(given, "each", 1, MOST_EACH),
+        turns: number_of(given, "turns", 1, MOST_TURNS),
+        size: number_of(given, "size", 1, MOST_ENTRIES) as u16,
+        threshold: number_of(given, "threshold", 1, MOST_ENTRIES) as u16,
+        slots: number_of(given, "slots", 1, MOST_SLOTS) as u16,
+        buffers: number_of(given, "buffers", LEAST_BUFFERS, MOST_BUFFERS) as u16,
+    }
+}
+
+// What such numbers ask for.
+fn asked_by(load: Workload) -> Asked
+    ensures workers { load.threshold ≤ load.size → result ≡ Asked.Threads load }
+    ensures refused { load.size < load.threshold → result ≡ Asked.HighThreshold load }
+{
+    if load.threshold <= load.size {
+        Asked::Threads(load)
+    } else {
+        Asked::HighThreshold(load)
     }
 }
 
@@ -261,6 +349,15 @@ fn form_of(given: &ArgMatches<'_>) -> Trace
         Trace::Json
     } else {
         Trace::Table
+    }
+}
+
+// The check that the option of `check` asks for.
+fn check_of(given: &ArgMatches<'_>) -> Check
+    ensures { IsCheckOf (rows_of (found_of given.now)) result }
+{
+    Check {
+        is_strict: given.get_flag("strict"),
     }
 }
 
@@ -287,8 +384,8 @@ fn report_of(matches: &ArgMatches<'_>) -> Option<Report>
     if let Some(given) = matches.subcommand_matches("trace") {
         return Some(Report::Trace(form_of(given)));
     }
-    if is_named(matches, "check") {
-        return Some(Report::Check);
+    if let Some(given) = matches.subcommand_matches("check") {
+        return Some(Report::Check(check_of(given)));
     }
     if is_named(matches, "explain") {
         return Some(Report::Explain);
@@ -311,7 +408,7 @@ pub fn read_words<'a>(alloc: Global, words: &'a [String]) -> Result<Asked, Error
     }
     let matches = command_line(alloc)?.try_get_matches_from(words)?;
     if let Some(given) = matches.subcommand_matches("threads") {
-        return Ok(Asked::Threads(workload_of(given)));
+        return Ok(asked_by(workload_of(given)));
     }
     if let Some(report) = report_of(&matches) {
         return Ok(Asked::Report(report));

@@ -27,26 +27,29 @@ ghost use Rattle.clap.specs.Walk.{Row, Text};
 ghost use Rattle.dsa_workers.specs.declared.scripts.WorkerEnd.TheVariants.{HistoryFull};
 ghost use Rattle.dsa_workers.specs.Workers.{receipts_in, RunsClient, RunsEngine};
 ghost use Rattle.dsa_cli.specs.declared.options.Workload.{Workload};
-ghost use Rattle.dsa_cli.specs.declared.options.Asked.TheVariants.{Scenario, Report, Serve, Threads};
+ghost use Rattle.dsa_cli.specs.declared.options.Asked.TheVariants.{Scenario, Report, Serve, Threads, HighThreshold};
 ghost use Rattle.clap.specs.declared.error.kind.ErrorKind.TheVariants.{UnknownArgument, InvalidSubcommand, ValueValidation, DisplayHelp, DisplayVersion};
 ghost use Rattle.dsa_cli.specs.declared.reports.Report.TheVariants.{Check, Explain, Trace, Draw, Conform};
 ghost use Rattle.dsa_trace.specs.declared.form.Trace.TheVariants.{Table, Json};
 ghost use Rattle.dsa_scenario.specs.declared.faults.ScenarioFault.TheVariants.{BadCaps, Read, TooLong, Write, OutOfMemory};
 ghost use Rattle.dsa_scenario.specs.declared.watched.WatchedWriter.{WatchedWriter};
-ghost use Rattle.dsa_scenario.specs.Scenario.{HasFault};
+ghost use Rattle.dsa_scenario.specs.Scenario.{HasFault, IsTextCutShort, IsTextWritten};
+ghost use Rattle.dsa_scenario.specs.Streams.{AreLinesOfStart, IsTextBegun};
 ghost use Rattle.dsa_scenario.specs.Watched.{has_refused, is_closed};
 ghost use Rattle.dsa_check.specs.Check.{IsCheckReportOf};
+ghost use Rattle.dsa_check.specs.Worked.{plain_check, strict_check};
 ghost use Rattle.dsa_conform.specs.Run.{IsConformance};
 ghost use Rattle.dsa_explain_lines.specs.Run.{IsExplanation};
-ghost use Rattle.dsa_trace.specs.Run.{IsTrace};
+ghost use Rattle.dsa_trace.specs.Lines.{trace_line_of_step};
+ghost use Rattle.dsa_trace.specs.Run.{IsTrace, IsTraceOf};
 ghost use Rattle.dsa_draw.specs.Drawings.{IsDrawingOf};
 ghost use Rattle.dsa_serve.specs.Dialogue.{AnswersAll};
-ghost use Rattle.dsa_cli.specs.Reports.{IsReportCutShort, IsReportOf, IsReported};
-ghost use Rattle.dsa_cli.specs.Endings.{IsFaultTold, IsQuiet, IsStoppedBy, IsUnwritten, IsWriteRefused};
+ghost use Rattle.dsa_cli.specs.Reports.{IsReportBegun, IsReportCutShort, IsReportOf, IsReported};
+ghost use Rattle.dsa_cli.specs.Endings.{IsFaultTold, IsQuiet, IsStoppedBy, IsStoppedOnTheWay, IsUnwritten, IsWriteRefused};
 ghost use Rattle.dsa_cli.specs.Threads.{AreScriptsOf, AreTotalsOf, IsClientScript, HaveWorked, IsInRange, RanAsClient, RanAsEngine, Submits, caps_for, capacity_for, engine_script, group_config, client_move, queue_config, setup_steps, submission_of, threads_fault_line, totals_text};
 ghost use Rattle.dsa_cli.specs.declared.threads.ThreadsFault.TheVariants as fault;
-ghost use Rattle.dsa_cli.specs.CommandLine.{AreNumbersOf, AreTotalsCutShort, AreTotalsWritten, AsksFor, IsAskedBy, IsMistaken, IsNumberOf, IsReportCut, IsReportName, IsReportWritten, IsServed, IsUnderstood, NameNothing, NameReport, NameServe, NameThreads, command_in, faults_of_words};
-ghost use Rattle.dsa_cli.specs.Worked.{page_move_bytes, move_under, load, threads_with, option_row, two_retries, client_seats_after, engine_seats_after, value_in, json_trace};
+ghost use Rattle.dsa_cli.specs.CommandLine.{AreNumbersOf, AreTotalsCutShort, AreTotalsWritten, AsksFor, IsAskedBy, IsMistaken, IsNumberOf, IsReportCut, IsReportLeft, IsReportName, IsReportWritten, IsServed, IsUnderstood, NameNothing, NameReport, NameServe, NameThreads, command_in, faults_of_words};
+ghost use Rattle.dsa_cli.specs.Worked.{page_move_bytes, move_under, load, sized, threads_with, option_row, two_retries, client_seats_after, engine_seats_after, value_in, json_trace, strict_words};
 
 /// What the words may be: none, or the command `threads` with its options.
 #[tactic(auto, unfolding(clap::proofs::OnLiterals::clap_on_literals))]
@@ -61,6 +64,8 @@ pub fn words_understood()
     ensures json_alone { faults_of_words (codes "--json" ∷ []) ≡ UnknownArgument ∷ [] }
     ensures check { faults_of_words (codes "check" ∷ []) ≡ [] }
     ensures checks { command_in (codes "check" ∷ []) ≡ Some (codes "check") }
+    ensures strict_check { faults_of_words strict_words ≡ [] }
+    ensures strict_alone { faults_of_words (codes "--strict" ∷ []) ≡ UnknownArgument ∷ [] }
     ensures explain { faults_of_words (codes "explain" ∷ []) ≡ [] }
     ensures explains { command_in (codes "explain" ∷ []) ≡ Some (codes "explain") }
     ensures draw { faults_of_words (codes "draw" ∷ []) ≡ [] }
@@ -93,6 +98,10 @@ pub fn option_values()
     ensures engines { value_in (codes "threads" ∷ []) (codes "engines") ≡ Some (codes "2") }
     ensures each { value_in (codes "threads" ∷ []) (codes "each") ≡ Some (codes "100") }
     ensures turns { value_in (codes "threads" ∷ []) (codes "turns") ≡ Some (codes "10000") }
+    ensures size { value_in (codes "threads" ∷ []) (codes "size") ≡ Some (codes "16") }
+    ensures threshold { value_in (codes "threads" ∷ []) (codes "threshold") ≡ Some (codes "8") }
+    ensures slots { value_in (codes "threads" ∷ []) (codes "slots") ≡ Some (codes "4") }
+    ensures buffers { value_in (codes "threads" ∷ []) (codes "buffers") ≡ Some (codes "32") }
     ensures given { value_in (threads_with (codes "--each") (codes "7")) (codes "each")
         ≡ Some (codes "7") }
     ensures other { value_in (threads_with (codes "--each") (codes "7")) (codes "turns")
@@ -114,6 +123,18 @@ pub fn option_bounds()
     ensures turns { map (λ n. faults_of_words (threads_with (codes "--turns") n))
         (codes "0" ∷ codes "1" ∷ codes "40000" ∷ codes "40001" ∷ [])
         ≡ (ValueValidation ∷ []) ∷ [] ∷ [] ∷ (ValueValidation ∷ []) ∷ [] }
+    ensures sizes { map (λ n. faults_of_words (threads_with (codes "--size") n))
+        (codes "0" ∷ codes "1" ∷ codes "1024" ∷ codes "1025" ∷ [])
+        ≡ (ValueValidation ∷ []) ∷ [] ∷ [] ∷ (ValueValidation ∷ []) ∷ [] }
+    ensures thresholds { map (λ n. faults_of_words (threads_with (codes "--threshold") n))
+        (codes "0" ∷ codes "1" ∷ codes "1024" ∷ codes "1025" ∷ [])
+        ≡ (ValueValidation ∷ []) ∷ [] ∷ [] ∷ (ValueValidation ∷ []) ∷ [] }
+    ensures slots { map (λ n. faults_of_words (threads_with (codes "--slots") n))
+        (codes "0" ∷ codes "1" ∷ codes "16" ∷ codes "17" ∷ [])
+        ≡ (ValueValidation ∷ []) ∷ [] ∷ [] ∷ (ValueValidation ∷ []) ∷ [] }
+    ensures buffers { map (λ n. faults_of_words (threads_with (codes "--buffers") n))
+        (codes "3" ∷ codes "4" ∷ codes "255" ∷ codes "256" ∷ [])
+        ≡ (ValueValidation ∷ []) ∷ [] ∷ [] ∷ (ValueValidation ∷ []) ∷ [] }
     ensures no_numbers { map (λ n. faults_of_words (threads_with (codes "--clients") n))
         (codes "" ∷ codes "two" ∷ codes "1.0" ∷ [])
         ≡ (ValueValidation ∷ []) ∷ (ValueValidation ∷ []) ∷ (ValueValidation ∷ []) ∷ [] }
@@ -121,7 +142,7 @@ pub fn option_bounds()
 
 /// What the workers share.
 pub fn threads_device()
-    ensures caps { caps_for 3
+    ensures caps { caps_for (load 2 3 5 7)
         ≡ record {
           queues = 1;
           groups = 1;
@@ -132,8 +153,19 @@ pub fn threads_device()
           max_batch_shift = 3;
           max_xfer_shift = 20;
         } }
+    ensures caps_by_options { caps_for (sized 100 70 9 200)
+        ≡ record {
+          queues = 1;
+          groups = 1;
+          engines = 3;
+          total_size = 100;
+          read_buffers = 200;
+          slots = 9;
+          max_batch_shift = 3;
+          max_xfer_shift = 20;
+        } }
     ensures capacity { capacity_for (load 2 3 5 7) ≡ 46 }
-    ensures queue { queue_config
+    ensures queue { queue_config (load 2 3 5 7)
         ≡ record {
           size = 16;
           threshold = 8;
@@ -143,12 +175,18 @@ pub fn threads_device()
           max_batch_shift = 3;
           max_xfer_shift = 20;
         } }
-    ensures group { group_config 1
+    ensures queue_by_options { queue_config (sized 100 70 9 200)
+        ≡ record (queue_config (load 2 3 5 7)) { size = 100; threshold = 70 } }
+    ensures group { group_config (load 2 1 5 7)
         ≡ record { queues = 1; engines = 1; reserved = 0; allowed = 32 } }
-    ensures engines { (group_config 8).engines ≡ 255 }
-    ensures setup { setup_steps 3
-        ≡ record { event = WriteQueue 0 queue_config; reply = reply.Write Written }
-        ∷ record { event = WriteGroup 0 (group_config 3); reply = reply.Write Written }
+    ensures group_by_options { group_config (sized 100 70 9 200)
+        ≡ record { queues = 1; engines = 7; reserved = 0; allowed = 200 } }
+    ensures engines { (group_config (load 2 8 5 7)).engines ≡ 255 }
+    ensures setup { setup_steps (sized 100 70 9 200)
+        ≡ record
+        { event = WriteQueue 0 (queue_config (sized 100 70 9 200)); reply = reply.Write Written }
+        ∷ record
+        { event = WriteGroup 0 (group_config (sized 100 70 9 200)); reply = reply.Write Written }
         ∷ record { event = Issue EnableDevice; reply = reply.Issue (Ended 0) }
         ∷ record { event = Issue (EnableWq 0); reply = reply.Issue (Ended 0) }
         ∷ [] }
@@ -174,8 +212,11 @@ pub fn total_lines()
 
 /// The bounds of what may be asked for.
 pub fn loads()
-    ensures least { IsInRange (load 1 1 1 1) }
-    ensures most { IsInRange (load 16 8 1_000 40_000) }
+    ensures least { IsInRange
+        (record (load 1 1 1 1) { size = 1; threshold = 1; slots = 1; buffers = 4 }) }
+    ensures most { IsInRange
+        (record (load 16 8 1_000 40_000)
+        { size = 1_024; threshold = 1_024; slots = 16; buffers = 255 }) }
     ensures no_client { ¬ IsInRange (load 0 1 1 1) }
     ensures many_clients { ¬ IsInRange (load 17 1 1 1) }
     ensures no_engine { ¬ IsInRange (load 1 0 1 1) }
@@ -184,6 +225,14 @@ pub fn loads()
     ensures much_each { ¬ IsInRange (load 1 1 1_001 1) }
     ensures no_turn { ¬ IsInRange (load 1 1 1 0) }
     ensures many_turns { ¬ IsInRange (load 1 1 1 40_001) }
+    ensures no_size { ¬ IsInRange (sized 0 8 4 32) }
+    ensures large_size { ¬ IsInRange (sized 1_025 8 4 32) }
+    ensures no_threshold { ¬ IsInRange (sized 16 0 4 32) }
+    ensures high_threshold { ¬ IsInRange (sized 16 17 4 32) }
+    ensures no_slot { ¬ IsInRange (sized 16 8 0 32) }
+    ensures many_slots { ¬ IsInRange (sized 16 8 17 32) }
+    ensures few_buffers { ¬ IsInRange (sized 16 8 4 3) }
+    ensures many_buffers { ¬ IsInRange (sized 16 8 4 256) }
 {}
 
 /// What a client submits.
@@ -199,8 +248,8 @@ pub fn totals_of_a_run()
     ensures totals { AreTotalsOf (load 1 2 3 4)
         (record
         { accepted = 3; fetched = 0; retried = 0; done = 2; lost = 0; held = 1; steps = 11 }) }
-    ensures seats { HaveWorked (caps_for 2) 20 (load 1 2 3 4) client_seats_after
-        engine_seats_after (Some (setup_steps 2)) }
+    ensures seats { HaveWorked (caps_for (load 1 2 3 4)) 20 (load 1 2 3 4) client_seats_after
+        engine_seats_after (Some (setup_steps (load 1 2 3 4))) }
 {}
 
 /// What each worker of a run did: a client made a step in each turn or came to the end of its
@@ -240,11 +289,11 @@ pub fn runs_refused()
 /// each.
 pub fn history_of_a_run()
     ensures run { (totals : Totals) (run : AreTotalsOf (load 2 3 5 7) totals)
-        → (is_legal (caps_for 3) run.history ≡ true)
-        × (replay (caps_for 3) run.history ≡ Some run.last)
+        → (is_legal (caps_for (load 2 3 5 7)) run.history ≡ true)
+        × (replay (caps_for (load 2 3 5 7)) run.history ≡ Some run.last)
         × (length run.history ≤ 46)
-        × (steps_of_actor run.history Admin ≡ setup_steps 3)
-        × (take 4 run.history ≡ setup_steps 3)
+        × (steps_of_actor run.history Admin ≡ setup_steps (load 2 3 5 7))
+        × (take 4 run.history ≡ setup_steps (load 2 3 5 7))
         × (totals ≡ totals_of run.history (held_count run.last.work.content))
         × (totals.accepted + totals.fetched ≡ totals.done + totals.lost + totals.held)
         × (totals.accepted ≤ 10)
@@ -253,45 +302,48 @@ pub fn history_of_a_run()
         → totals.accepted ≤ 5 }
     ensures clients { (totals : Totals) (run : AreTotalsOf (load 2 3 5 7) totals) (c : ℕ) → c < 2
         → All (λ step. step.event ≡ submission_of c) (steps_of_actor run.history (Client c))
-        × RanAsClient (caps_for 3) 46 (load 2 3 5 7) c
+        × RanAsClient (caps_for (load 2 3 5 7)) 46 (load 2 3 5 7) c
         (record { number = c; receipts = steps_of_actor run.history (Client c) }) }
     ensures engines { (totals : Totals) (run : AreTotalsOf (load 2 3 5 7) totals) (e : ℕ) → e < 3
-        → RanAsEngine (caps_for 3) 46 (load 2 3 5 7) e
+        → RanAsEngine (caps_for (load 2 3 5 7)) 46 (load 2 3 5 7) e
         (record { number = e; receipts = steps_of_actor run.history (Engine e) }) }
 {}
 
 /// What the seats have after such a run, and where there was nobody to run.
 pub fn seats_of_a_run()
-    ensures nobody { HaveWorked (caps_for 3) 46 (load 0 0 5 7) [] [] (Some (setup_steps 0)) }
+    ensures nobody { HaveWorked (caps_for (load 2 3 5 7)) 46 (load 0 0 5 7) [] []
+        (Some (setup_steps (load 0 0 5 7))) }
     ensures seats { (clients engines : List SeatLog) (admin : Option (List Step))
-        → HaveWorked (caps_for 1) 9 (load 2 3 5 7) clients engines admin
+        → HaveWorked (caps_for (load 1 1 1 1)) 9 (load 2 3 5 7) clients engines admin
         → (length clients ≡ 2)
         × (length engines ≡ 3)
         × All (λ seat. total_accepted seat.receipts ≤ 5) clients
         × All (λ seat. length seat.receipts ≤ 7) clients
         × All (λ seat. length seat.receipts ≤ 7) engines
-        × (receipts_in admin ≡ setup_steps 3) }
+        × (receipts_in admin ≡ setup_steps (load 2 3 5 7)) }
     ensures clients { (clients engines : List SeatLog) (admin : Option (List Step))
-        → HaveWorked (caps_for 1) 9 (load 2 3 5 7) clients engines admin
+        → HaveWorked (caps_for (load 1 1 1 1)) 9 (load 2 3 5 7) clients engines admin
         → (c : ℕ) (d : SeatLog) → c < 2
         → ((slice_index_or clients c d).number ≡ c)
         × All (λ step. step.event ≡ submission_of c) (slice_index_or clients c d).receipts
-        × RanAsClient (caps_for 1) 9 (load 2 3 5 7) c (slice_index_or clients c d) }
+        × RanAsClient (caps_for (load 1 1 1 1)) 9 (load 2 3 5 7) c (slice_index_or clients c d) }
     ensures engine_runs { (clients engines : List SeatLog) (admin : Option (List Step))
-        → HaveWorked (caps_for 1) 9 (load 2 3 5 7) clients engines admin
+        → HaveWorked (caps_for (load 1 1 1 1)) 9 (load 2 3 5 7) clients engines admin
         → (e : ℕ) (d : SeatLog) → e < 3
-        → RanAsEngine (caps_for 1) 9 (load 2 3 5 7) e (slice_index_or engines e d) }
+        → RanAsEngine (caps_for (load 1 1 1 1)) 9 (load 2 3 5 7) e (slice_index_or engines e d) }
 {}
 
 /// What the workers of such a run did: client 4 submits five times under PASID 5.
 pub fn runs_of_workers()
-    ensures client { (seat : SeatLog) (ran : RanAsClient (caps_for 1) 9 (load 2 3 5 7) 4 seat)
+    ensures client { (seat : SeatLog)
+        (ran : RanAsClient (caps_for (load 1 1 1 1)) 9 (load 2 3 5 7) 4 seat)
         → (length ran.0 ≡ 5)
         × All (Submits 5) ran.0
-        × RunsClient (caps_for 1) 9 ran.0 7 (fresh 4) seat ran.1
+        × RunsClient (caps_for (load 1 1 1 1)) 9 ran.0 7 (fresh 4) seat ran.1
         × (ran.1.ended ≢ HistoryFull) }
-    ensures engine { (seat : SeatLog) (ran : RanAsEngine (caps_for 1) 9 (load 2 3 5 7) 4 seat)
-        → RunsEngine (caps_for 1) 9 engine_script 7 (fresh 4) seat ran.0
+    ensures engine { (seat : SeatLog)
+        (ran : RanAsEngine (caps_for (load 1 1 1 1)) 9 (load 2 3 5 7) 4 seat)
+        → RunsEngine (caps_for (load 1 1 1 1)) 9 engine_script 7 (fresh 4) seat ran.0
         × (ran.0.ended ≢ HistoryFull) }
 {}
 
@@ -367,7 +419,17 @@ pub fn names_of_reports()
     ensures draw { IsReportName (codes "draw") }
     ensures conform { IsReportName (codes "conform") }
     ensures serve { ¬ IsReportName (codes "serve") }
-    ensures asks_check { IsAskedBy (codes "check", []) Check }
+    ensures asks_check { IsAskedBy (codes "check", option_row (codes "strict") (codes "false"))
+        (Check plain_check) }
+    ensures asks_strict_check { IsAskedBy
+        (codes "check", option_row (codes "strict") (codes "true"))
+        (Check strict_check) }
+    ensures no_strict_check { ¬ IsAskedBy
+        (codes "check", option_row (codes "strict") (codes "false"))
+        (Check strict_check) }
+    ensures no_plain_check { ¬ IsAskedBy
+        (codes "check", option_row (codes "strict") (codes "true"))
+        (Check plain_check) }
     ensures asks_explain { IsAskedBy (codes "explain", []) Explain }
     ensures asks_draw { IsAskedBy (codes "draw", []) Draw }
     ensures asks_conform { IsAskedBy (codes "conform", []) Conform }
@@ -387,23 +449,29 @@ pub fn names_of_reports()
 #[tactic(auto, unfolding(clap::proofs::OnLiterals::clap_on_literals))]
 pub fn numbers_of_options()
     ensures least { (n : ℕ)
-        → IsNumberOf (option_row (codes "each") (codes "1")) (codes "each") 1_000 n
+        → IsNumberOf (option_row (codes "each") (codes "1")) (codes "each") 1 1_000 n
         → IsNumeral 10 (codes "1") → n ≡ 1 }
     ensures most { (n : ℕ)
-        → IsNumberOf (option_row (codes "each") (codes "1000")) (codes "each") 1_000 n
+        → IsNumberOf (option_row (codes "each") (codes "1000")) (codes "each") 1 1_000 n
         → IsNumeral 10 (codes "1000") → n ≡ 1_000 }
-    ensures below { IsNumberOf (option_row (codes "each") (codes "0")) (codes "each") 1_000 7 }
-    ensures above { IsNumberOf (option_row (codes "each") (codes "1001")) (codes "each") 1_000 7 }
-    ensures no_number { IsNumberOf (option_row (codes "each") (codes "1a")) (codes "each") 1_000 7 }
+    ensures below { IsNumberOf (option_row (codes "each") (codes "0")) (codes "each") 1 1_000 7 }
+    ensures above { IsNumberOf (option_row (codes "each") (codes "1001")) (codes "each") 1 1_000 7 }
+    ensures no_number { IsNumberOf (option_row (codes "each") (codes "1a")) (codes "each") 1 1_000
+        7 }
     ensures many_clients { AreNumbersOf (option_row (codes "clients") (codes "17")) (load 2 3 5 7) }
     ensures many_engines { AreNumbersOf (option_row (codes "engines") (codes "9")) (load 2 3 5 7) }
     ensures much_each { AreNumbersOf (option_row (codes "each") (codes "1001")) (load 2 3 5 7) }
     ensures many_turns { AreNumbersOf (option_row (codes "turns") (codes "40001")) (load 2 3 5 7) }
+    ensures few_buffers { AreNumbersOf (option_row (codes "buffers") (codes "3")) (load 2 3 5 7) }
     ensures all { (rows : List Row) (asked : Workload) → AreNumbersOf rows asked
-        → IsNumberOf rows (codes "clients") 16 asked.clients
-        × IsNumberOf rows (codes "engines") 8 asked.engines
-        × IsNumberOf rows (codes "each") 1_000 asked.each
-        × IsNumberOf rows (codes "turns") 40_000 asked.turns }
+        → IsNumberOf rows (codes "clients") 1 16 asked.clients
+        × IsNumberOf rows (codes "engines") 1 8 asked.engines
+        × IsNumberOf rows (codes "each") 1 1_000 asked.each
+        × IsNumberOf rows (codes "turns") 1 40_000 asked.turns
+        × IsNumberOf rows (codes "size") 1 1_024 asked.size
+        × IsNumberOf rows (codes "threshold") 1 1_024 asked.threshold
+        × IsNumberOf rows (codes "slots") 1 16 asked.slots
+        × IsNumberOf rows (codes "buffers") 4 255 asked.buffers }
 {}
 
 /// The scripts of two clients and of engines.
@@ -489,7 +557,8 @@ pub fn reports_of_documents()
         → ¬ IsReportOf (Trace Json) bytes (Some BadCaps) text }
     ensures no_drawing { (bytes text : List ℕ) → ¬ IsReportOf Draw bytes (Some BadCaps) text }
     ensures check { (bytes text : List ℕ)
-        → IsReportOf Check bytes (Some BadCaps) text → IsCheckReportOf bytes (Some BadCaps) text }
+        → IsReportOf (Check plain_check) bytes (Some BadCaps) text
+        → IsCheckReportOf plain_check bytes (Some BadCaps) text }
     ensures explanation { (bytes text : List ℕ)
         → IsReportOf Explain bytes None text → IsExplanation bytes text }
     ensures trace { (bytes text : List ℕ)
@@ -529,19 +598,28 @@ pub fn asked()
         (Threads (load 2 3 100 10_000)) }
     ensures trace { AsksFor (codes "trace" ∷ []) (Report (Trace Table)) }
     ensures json { AsksFor json_trace (Report (Trace Json)) }
-    ensures check { AsksFor (codes "check" ∷ []) (Report Check) }
+    ensures check { AsksFor (codes "check" ∷ []) (Report (Check plain_check)) }
+    ensures strict_check { AsksFor strict_words (Report (Check strict_check)) }
+    ensures no_plain_check { ¬ AsksFor strict_words (Report (Check plain_check)) }
+    ensures no_strict_check { ¬ AsksFor (codes "check" ∷ []) (Report (Check strict_check)) }
     ensures explain { AsksFor (codes "explain" ∷ []) (Report Explain) }
     ensures draw { AsksFor (codes "draw" ∷ []) (Report Draw) }
     ensures conform { AsksFor (codes "conform" ∷ []) (Report Conform) }
     ensures serve { AsksFor (codes "serve" ∷ []) Serve }
     ensures draw_is_no_scenario { ¬ AsksFor (codes "draw" ∷ []) Scenario }
     ensures serve_is_no_scenario { ¬ AsksFor (codes "serve" ∷ []) Scenario }
-    ensures other_report { ¬ AsksFor (codes "draw" ∷ []) (Report Check) }
+    ensures other_report { ¬ AsksFor (codes "draw" ∷ [])
+        (Report (Check plain_check)) }
     ensures nothing_is_no_report { ¬ AsksFor [] (Report Draw) }
     ensures nothing_is_no_threads { ¬ AsksFor [] (Threads (load 2 2 100 10_000)) }
     ensures other_numbers { ¬ AsksFor (threads_with (codes "--engines") (codes "3"))
         (Threads (load 2 7 100 10_000)) }
+    ensures high_threshold { AsksFor (threads_with (codes "--threshold") (codes "17"))
+        (HighThreshold (record (load 2 2 100 10_000) { threshold = 17 })) }
+    ensures threshold_at_the_size { ¬ AsksFor (threads_with (codes "--threshold") (codes "16"))
+        (HighThreshold (record (load 2 2 100 10_000) { threshold = 16 })) }
     ensures mistaken { IsMistaken (codes "scenario" ∷ []) }
+    ensures mistaken_threshold { IsMistaken (threads_with (codes "--threshold") (codes "17")) }
     ensures help { ¬ IsMistaken (codes "--help" ∷ []) }
     ensures version { ¬ IsMistaken (codes "--version" ∷ []) }
     ensures none { ¬ IsMistaken [] }
@@ -558,4 +636,27 @@ pub fn lines_of_faults()
     ensures { map threads_fault_line (fault.SettleRefused ∷ fault.Write ∷ fault.OutOfMemory ∷ [])
         ≡ codes "dsa_run: settle refused\n" ∷ codes "dsa_run: write failed\n"
         ∷ codes "dsa_run: out of memory\n" ∷ [] }
+{}
+
+/// How a report stops that is written on the way, and which one is.
+pub fn reports_begun()
+    ensures kept { (old new : ℕ)
+        → IsStoppedOnTheWay TooLong (λ _ _ _ _. ⊤) (λ _ _ _ _. ⊤) (Some []) (Some [])
+        (λ n. Some (n ∷ [])) old new
+        → new ≡ old }
+    ensures begun { IsStoppedOnTheWay OutOfMemory (λ _ _ _ _. ⊥) (λ _ _ _ _. ⊤) (Some []) (Some [])
+        (λ n. Some (n ∷ [])) 3 4 }
+    ensures not_begun { ¬ IsStoppedOnTheWay OutOfMemory (λ _ _ _ _. ⊤) (λ _ _ _ _. ⊥) (Some [])
+        (Some []) (λ n. Some (n ∷ [])) 3 4 }
+    ensures not_cut { ¬ IsStoppedOnTheWay Write (λ _ _ _ _. ⊥) (λ _ _ _ _. ⊤) (Some [])
+        (Some []) (λ n. Some (n ∷ [])) 3 4 }
+    ensures rows { (had left held holds : Option (List ℕ))
+        → IsReportBegun (Trace Json) had left held holds
+        → IsTextWritten (AreLinesOfStart (trace_line_of_step Json)) had left held holds }
+    ensures no_drawing { (had left held holds : Option (List ℕ))
+        → ¬ IsReportLeft (codes "draw", []) had left held holds }
+    ensures trace_cut { (had left held holds : Option (List ℕ))
+        → IsReportCutShort (Trace Table) had left held holds
+        → IsTextCutShort (IsTextBegun (IsTraceOf Table) (trace_line_of_step Table)) had left held
+        holds }
 {}

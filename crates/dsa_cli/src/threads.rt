@@ -8,9 +8,10 @@ ghost use Rattle.dsa_book.specs.Totals.{actor_of};
 ghost use Rattle.dsa_shared.specs.Seat.{AllFresh};
 ghost use Rattle.dsa_device.specs.Running.{running_at_first};
 ghost use Rattle.dsa_scenario.specs.Watched.{watched_contents, has_refused, IsSameWriter};
-ghost use Rattle.dsa_cli.specs.Threads.{IsInRange, AreTotalsOf, AreScriptsOf, HaveWorked, IsClientScript, Submits, caps_for, capacity_for, setup_steps, engine_script, totals_text};
+ghost use Rattle.dsa_cli.specs.Threads.{IsInRange, AreTotalsOf, AreScriptsOf, HaveWorked, IsClientScript, Submits, caps_for, capacity_for, queue_config, group_config, setup_steps, engine_script, totals_text};
 
 use crate::options::Workload;
+use crate::pace::Pace;
 use crate::totals::render_totals;
 use dsa_book::{Actor, IssueAnswer, Kind, Portal, Step, WriteAnswer};
 use dsa_cells::LinkedStore;
@@ -20,7 +21,7 @@ use dsa_regs::{Caps, Command, GroupConfig, QueueConfig, cell_count, list_count};
 use dsa_scenario::{WatchedWriter, write_text};
 use dsa_shared::{AdminSeat, Blanks, Seats, ShareFault, SharedDevice, Sharing, Totals};
 use dsa_store::EntryStore;
-use dsa_workers::{ClientStep, EngineScript, Gate, RunFault, Scripts, WorkerEnd, run_threads};
+use dsa_workers::{ClientStep, EngineScript, RunFault, Scripts, WorkerEnd, run_threads};
 use std::alloc::{AllocError, Global};
 use std::fmt;
 use std::fmt::Display;
@@ -57,14 +58,6 @@ impl Display for ThreadsFault {
     }
 }
 
-// Holds nobody.
-#[derive(Drop)]
-struct OpenGate;
-
-impl Gate for OpenGate {
-    fn pass(&self, _worker: usize, _turn: u32) {}
-}
-
 impl From<AllocError> for ThreadsFault {
     ghost use Rattle.std.specs.Prelude.{◌≡◌};
     ghost use Rattle.dsa_cli.specs.declared.threads.ThreadsFault.TheVariants.{OutOfMemory};
@@ -75,16 +68,6 @@ impl From<AllocError> for ThreadsFault {
         ThreadsFault::OutOfMemory
     }
 }
-
-const QUEUE: QueueConfig = QueueConfig {
-    size: 16,
-    threshold: 8,
-    dedicated: false,
-    priority: 1,
-    pasid: 0,
-    max_batch_shift: 3,
-    max_xfer_shift: 20,
-};
 
 /// The steps that set the device up.
 const SETUP_STEPS: u64 = 4;
@@ -101,19 +84,53 @@ const ENGINE: EngineScript = EngineScript {
     outcome: Outcome::Success,
 };
 
-fn caps_for(engines: u16) -> Caps
-    ensures { result ≡ caps_for engines }
+fn caps_for(load: &Workload) -> Caps
+    ensures { result ≡ caps_for load.now }
 {
     Caps {
         queues: 1,
         groups: 1,
-        engines,
-        total_size: 16,
-        read_buffers: 32,
-        slots: 4,
+        engines: load.engines,
+        total_size: load.size,
+        read_buffers: load.buffers,
+        slots: load.slots,
         max_batch_shift: 3,
         max_xfer_shift: 20,
     }
+}
+
+fn queue_for(load: &Workload) -> QueueConfig
+    ensures { result ≡ queue_config load.now }
+{
+    QueueConfig {
+        size: load.size,
+        threshold: load.threshold,
+        dedicated: false,
+        priority: 1,
+        pasid: 0,
+        max_batch_shift: 3,
+        max_xfer_shift: 20,
+    }
+}
+
+// All engines are in the group, and the read buffers are theirs.
+fn group_for(load: &Workload) -> GroupConfig
+    requires { load.now.engines ≤ 8 }
+    ensures { result ≡ group_config load.now }
+{
+    GroupConfig {
+        queues: 1,
+        engines: (1u64 << load.engines) - 1,
+        reserved: 0,
+        allowed: load.buffers,
+    }
+}
+
+// The clients, the engines and the administrator.
+fn workers_of(load: &Workload) -> u32
+    ensures { result ≡ load.now.clients + load.now.engines + 1 }
+{
+    u32::from(load.clients) + u32::from(load.engines) + 1
 }
 
 // Room for a step at each turn of each worker.
@@ -122,8 +139,7 @@ fn capacity_for(load: &Workload) -> u64
     ensures number { result ≡ capacity_for load.now }
     ensures bound { result ≤ 2 ^ 20 }
 {
-    let workers = u64::from(load.clients) + u64::from(load.engines) + 1;
-    workers * u64::from(load.turns) + SETUP_STEPS
+    u64::from(workers_of(load)) * u64::from(load.turns) + SETUP_STEPS
 }
 
 // A Move of 4096 bytes by ENQCMD, on the limited portal.
@@ -180,21 +196,15 @@ fn all_done(first: WriteAnswer, second: WriteAnswer, third: IssueAnswer, last: I
 fn set_up<S: EntryStore, L: Sharing, R: Wait>(
     rt: &R,
     shared: &SharedDevice<S, L>,
-    engines: u16,
+    load: &Workload,
     admin: &mut AdminSeat<L>,
 ) -> bool
-    requires { engines ≤ 8 }
-    ensures done { result ≡ true → admin.new ≡ admin.old ++ setup_steps engines }
-    ensures not_done { result ≡ false → admin.new ≢ admin.old ++ setup_steps engines }
+    requires { load.now.engines ≤ 8 }
+    ensures done { result ≡ true → admin.new ≡ admin.old ++ setup_steps load.now }
+    ensures not_done { result ≡ false → admin.new ≢ admin.old ++ setup_steps load.now }
 {
-    let group = GroupConfig {
-        queues: 1,
-        engines: (1u64 << engines) - 1,
-        reserved: 0,
-        allowed: 32,
-    };
-    let first = shared.write_queue(rt, admin, 0, QUEUE);
-    let second = shared.write_group(rt, admin, 0, group);
+    let first = shared.write_queue(rt, admin, 0, queue_for(load));
+    let second = shared.write_group(rt, admin, 0, group_for(load));
     let third = shared.issue(rt, admin, Command::EnableDevice);
     let last = shared.issue(rt, admin, Command::EnableWq(0));
     all_done(first, second, third, last)
@@ -240,15 +250,16 @@ fn run_seats<S: EntryStore + Send, L: Sharing + Send + Sync, R: Threads + Wait +
     ensures fault { IfErr result (λ e. e ≢ ThreadsFault.Write) }
 {
     let scripts = scripts_for(alloc, load)?;
+    let pace = Pace::new(rt, load.clients, workers_of(load));
     match seats.admin.as_mut() {
         Some(admin) => {
-            if !set_up(rt, shared, load.engines, admin) {
+            if !set_up(rt, shared, load, admin) {
                 return Err(ThreadsFault::SettleRefused);
             }
         }
         None => unreachable!(),
     }
-    match run_threads(rt, alloc, shared, seats, &scripts, &OpenGate, load.turns) {
+    match run_threads(rt, alloc, shared, seats, &scripts, &pace, load.turns) {
         Ok(report) => {
             if none_full(&report.ended) {
                 return Ok(());
@@ -270,7 +281,7 @@ fn run_shared<S: EntryStore + Send, L: Sharing + Send + Sync, R: Threads + Wait 
 ) -> Result<Totals, ThreadsFault>
     requires load { IsInRange load.now }
     requires device { device
-        ≡ running_at_first (caps_for load.now.engines) (capacity_for load.now) }
+        ≡ running_at_first (caps_for load.now) (capacity_for load.now) }
     requires blanks { (blanks ≡ L.name) × (L.parts ≡ 129) }
     requires sharing { (L.caps ≡ device.caps)
         × (L.capacity ≡ device.capacity)
@@ -323,7 +334,7 @@ pub fn run_workload<R: Threads + Wait + Sync, W: Write>(
         × Appends (watched_contents W.contents writer.old)
         (watched_contents W.contents writer.new) (take count (totals_text totals)) }
 {
-    let caps = caps_for(load.engines);
+    let caps = caps_for(load);
     let store = LinkedStore::new(alloc, list_count(&caps), cell_count(&caps))?;
     let Ok(device) = Device::new(alloc, store, caps, capacity_for(load)) else {
         return Err(ThreadsFault::OutOfMemory);

@@ -8,18 +8,27 @@ ghost use Rattle.dsa_cli.specs.declared.options.Workload.{Workload};
 ghost use Rattle.dsa_scenario.specs.declared.faults.ScenarioFault.{ScenarioFault};
 ghost use Rattle.dsa_scenario.specs.Faults.{fault_line};
 ghost use Rattle.dsa_scenario.specs.Scenario.{HasFault, IsRenderingOf, IsTextWritten, IsTextCutShort, IsCutShort};
+ghost use Rattle.dsa_scenario.specs.Steps.{IsTextOfDocument};
+ghost use Rattle.dsa_scenario.specs.Streams.{AreLinesOfStart, IsTextBegun};
 ghost use Rattle.dsa_serve.specs.Dialogue.{IsLate, IsStopped};
 ghost use Rattle.dsa_cli.specs.declared.threads.ThreadsFault.{ThreadsFault};
 ghost use Rattle.dsa_cli.specs.Threads.{IsInRange, AreTotalsOf, threads_fault_line, totals_text};
 ghost use Rattle.dsa_scenario.specs.Watched.{watched_contents, has_refused, is_closed, IsSameWriter};
-ghost use Rattle.dsa_cli.specs.CommandLine.{IsMistaken, IsUnderstood, faults_of_words, IsServed, NameNothing, NameThreads, NameReport, NameServe, IsReportWritten, IsReportCut, AreTotalsWritten, AreTotalsCutShort};
-ghost use Rattle.dsa_cli.specs.Endings.{IsFaultTold, IsQuiet, IsWriteRefused, IsStoppedBy, IsUnwritten};
+ghost use Rattle.dsa_cli.specs.CommandLine.{IsMistaken, IsUnderstood, faults_of_words, high_threshold_text, IsServed, NameNothing, NameThreads, NameReport, NameServe, IsReportWritten, IsReportCut, IsReportLeft, AreTotalsWritten, AreTotalsCutShort};
+ghost use Rattle.dsa_cli.specs.Endings.{IsFaultTold, IsQuiet, IsWriteRefused, IsStoppedBy, IsStoppedOnTheWay, IsUnwritten};
+ghost use Rattle.dsa_cli.specs.Reports.{IsReported, IsReportCutShort, IsReportBegun};
 
 use crate::options::{Asked, Workload, read_words};
+use crate::reports::Report;
 use crate::threads::run_workload;
 use clap::Error;
 use clap::error::ErrorKind;
-use dsa_scenario::{PlainRun, Render, ScenarioFault, WatchedWriter, render_input};
+use dsa_conform::Conformance;
+use dsa_draw::Drawing;
+use dsa_explain_lines::Explanation;
+use dsa_scenario::{
+    PlainRun, Render, ScenarioFault, StreamSteps, WatchedWriter, render_input, stream_input,
+};
 use dsa_serve::serve_watched;
 use std::alloc::Global;
 use std::fmt::Display;
@@ -123,6 +132,77 @@ fn write_text<D: Render, R: Read, O: Write, E: Write>(
     }
 }
 
+// Writes what `what` makes of a run of the document that the reader gives, the lines of the steps
+// while these are made, and the line of the fault.
+fn stream_text<D: StreamSteps, R: Read, O: Write, E: Write>(
+    alloc: Global,
+    what: &D,
+    reader: &mut R,
+    out: &mut WatchedWriter<'_, O>,
+    err: &mut WatchedWriter<'_, E>,
+) -> u8
+    ensures same_output { IsSameWriter out.old out.new }
+    ensures same_writer { IsSameWriter err.old err.new }
+    ensures done { result ≡ 0
+        → IsTextWritten (IsTextOfDocument (D.is_text what.now))
+        (R.remaining reader.old) (R.remaining reader.new)
+        (watched_contents O.contents out.old) (watched_contents O.contents out.new) }
+    ensures failed { result ≡ 1
+        → (fault : ScenarioFault)
+        × IsStoppedOnTheWay fault
+        (IsTextCutShort (IsTextBegun (D.is_text what.now) (D.line what.now)))
+        (IsTextWritten (AreLinesOfStart (D.line what.now)))
+        (R.remaining reader.old) (R.remaining reader.new)
+        (watched_contents O.contents) out.old out.new
+        × IsWriteRefused fault out.new
+        × IsFaultTold out.new E.contents err.old err.new (fault_line fault) }
+    ensures quiet { IsQuiet result out.new err.old err.new }
+    ensures statuses { (result ≡ 0) ⊎ (result ≡ 1) }
+{
+    match stream_input(alloc, what, reader, out) {
+        Ok(document) => {
+            // As in `write_text`, the system frees it.
+            mem::forget(document);
+            DONE
+        }
+        Err(fault) => tell_reader(out, err, &fault),
+    }
+}
+
+// Writes the report on the document that the reader gives, and the line of the fault.
+fn write_report<R: Read, O: Write, E: Write>(
+    alloc: Global,
+    report: Report,
+    reader: &mut R,
+    out: &mut WatchedWriter<'_, O>,
+    err: &mut WatchedWriter<'_, E>,
+) -> u8
+    ensures same_output { IsSameWriter out.old out.new }
+    ensures same_writer { IsSameWriter err.old err.new }
+    ensures done { result ≡ 0
+        → IsReported report None (R.remaining reader.old) (R.remaining reader.new)
+        (watched_contents O.contents out.old) (watched_contents O.contents out.new) }
+    ensures failed { result ≡ 1
+        → (fault : ScenarioFault)
+        × (IsReported report (Some fault) (R.remaining reader.old) (R.remaining reader.new)
+        (watched_contents O.contents out.old) (watched_contents O.contents out.new)
+        ⊎ IsStoppedOnTheWay fault (IsReportCutShort report) (IsReportBegun report)
+        (R.remaining reader.old) (R.remaining reader.new)
+        (watched_contents O.contents) out.old out.new
+        × IsWriteRefused fault out.new)
+        × IsFaultTold out.new E.contents err.old err.new (fault_line fault) }
+    ensures quiet { IsQuiet result out.new err.old err.new }
+    ensures statuses { (result ≡ 0) ⊎ (result ≡ 1) }
+{
+    match report {
+        Report::Check(check) => write_text(alloc, &check, reader, out, err),
+        Report::Explain => write_text(alloc, &Explanation, reader, out, err),
+        Report::Trace(form) => stream_text(alloc, &form, reader, out, err),
+        Report::Draw => write_text(alloc, &Drawing, reader, out, err),
+        Report::Conform => write_text(alloc, &Conformance, reader, out, err),
+    }
+}
+
 // Answers the dialogue that the reader gives.
 fn serve_input<R: Read, O: Write, E: Write>(
     alloc: Global,
@@ -189,6 +269,24 @@ fn run_workers<T: Threads + Wait + Sync, O: Write, E: Write>(
     }
 }
 
+// Says that the threshold is above the size, and gives the exit status.
+fn refuse_threshold<E: Write>(err: &mut WatchedWriter<'_, E>, load: &Workload) -> u8
+    ensures status { result ≡ 2 }
+    ensures same_writer { IsSameWriter err.old err.new }
+    ensures text { has_refused err.new ≡ false
+        → Appends (watched_contents E.contents err.old) (watched_contents E.contents err.new)
+        (high_threshold_text load.now) }
+{
+    let threshold = load.threshold;
+    let size = load.size;
+    let _ = err.print(format_args!(
+        "error: invalid value '{threshold}' for '--threshold <NUMBER>': \
+        {threshold} is above the size, {size}\n\n\
+        For more information, try '--help'.\n"
+    ));
+    REFUSED
+}
+
 // Shows what `clap` has to say, and gives the exit status: help goes to `out`, all else to `err`.
 fn show<O: Write, E: Write>(
     out: &mut WatchedWriter<'_, O>,
@@ -234,12 +332,12 @@ fn show<O: Write, E: Write>(
 ///
 /// Without words it reads a document from `reader` and writes its lines to `out`. With the word
 /// `threads` it runs workers in threads on one shared device, and writes their totals to `out`.
-/// With the word of a report it reads a document, and writes that to `out`. With the word `serve`
-/// it reads a document in one line and then a step in each line, and answers each before it reads
-/// on. Help goes to `out`.
+/// With the word of a report it reads a document, and writes that to `out`, a trace row by row
+/// while the run is made. With the word `serve` it reads a document in one line and then a step in
+/// each line, and answers each before it reads on. Help goes to `out`.
 ///
 /// The status is 0 where all of it was written, and 1 on a fault, whose line goes to `err` unless
-/// nobody reads `out` any more. It is 2 on a usage error, and `err` gets what `clap` says of it.
+/// nobody reads `out` any more. It is 2 on a usage error, and `err` gets what is to say of it.
 pub fn answer_words<T: Threads + Wait + Sync, R: Read, O: Write, E: Write>(
     rt: &T,
     alloc: Global,
@@ -297,7 +395,8 @@ pub fn answer_words<T: Threads + Wait + Sync, R: Read, O: Write, E: Write>(
         → (fault : ScenarioFault)
         × (IsReportWritten found (Some fault) (R.remaining reader.old) (R.remaining reader.new)
         (watched_contents O.contents out.old) (watched_contents O.contents out.new)
-        ⊎ IsStoppedBy fault (IsReportCut found) (R.remaining reader.old) (R.remaining reader.new)
+        ⊎ IsStoppedOnTheWay fault (IsReportCut found) (IsReportLeft found)
+        (R.remaining reader.old) (R.remaining reader.new)
         (watched_contents O.contents) out.old out.new
         × IsWriteRefused fault out.new)
         × IsFaultTold out.new E.contents err.old err.new (fault_line fault) }
@@ -331,9 +430,10 @@ pub fn answer_words<T: Threads + Wait + Sync, R: Read, O: Write, E: Write>(
 {
     match read_words(alloc, words) {
         Ok(Asked::Scenario) => write_text(alloc, &PlainRun, reader, out, err),
-        Ok(Asked::Report(report)) => write_text(alloc, &report, reader, out, err),
+        Ok(Asked::Report(report)) => write_report(alloc, report, reader, out, err),
         Ok(Asked::Serve) => serve_input(alloc, reader, out, err),
         Ok(Asked::Threads(load)) => run_workers(rt, alloc, &load, out, err),
+        Ok(Asked::HighThreshold(load)) => refuse_threshold(err, &load),
         Err(error) => show(out, err, &error),
     }
 }
@@ -382,8 +482,8 @@ pub fn run_words<T: Threads + Wait + Sync, R: Read, O: Write, E: Write>(
         → (fault : ScenarioFault)
         × (IsReportWritten found (Some fault) (R.remaining reader.old) (R.remaining reader.new)
         (O.contents out.old) (O.contents out.new)
-        ⊎ IsStoppedBy fault (IsReportCut found) (R.remaining reader.old) (R.remaining reader.new)
-        O.contents out.old out.new) }
+        ⊎ IsStoppedOnTheWay fault (IsReportCut found) (IsReportLeft found)
+        (R.remaining reader.old) (R.remaining reader.new) O.contents out.old out.new) }
     ensures serve_failed { result ≡ 1
         → NameServe (map string_bytes words.now)
         → (fault : ScenarioFault)

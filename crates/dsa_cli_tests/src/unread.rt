@@ -8,7 +8,7 @@ use std::process::Abort;
 use std::sync::Wait;
 use std::thread::Threads;
 
-const WRONG: [Words; 22] = [
+const WRONG: [Words; 25] = [
     &["fly"],
     &[""],
     &["--json"],
@@ -30,6 +30,9 @@ const WRONG: [Words; 22] = [
     &["threads", "--engines", "9"],
     &["threads", "--each", "1001"],
     &["threads", "--turns", "40001"],
+    &["threads", "--size", "4"],
+    &["threads", "--threshold", "17"],
+    &["threads", "--buffers", "3"],
     &["help", "fly"],
 ];
 

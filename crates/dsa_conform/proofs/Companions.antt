@@ -505,6 +505,13 @@ all_differ caps capacity done here number old new tolds text named followed gone
     let way = followed.some in
     let h = followed.each way.0 way.1 in
     let i = replay_first caps capacity done number old followed in
+    let lines = all_lines caps capacity done here number old tolds told.lines named followed gone told.of_told in
+    let one = gone.all way.0 way.1 in
+    let asked = event_of one.0.records here.0 in
+    let entry = one.1.may.0 in
+    let at = stands_at caps capacity done number way.0.device way.0.tickets.items one.0 in
+    let line = lines.all one.0.records (shown_run caps capacity done number way.0.device way.0.tickets.items one.0)
+    entry (subst (λ d. IsAllowed d asked entry) (sym at) one.1.may.1) in
     record {
       some = h.records;
       run = shown_run caps capacity done number way.0.device way.0.tickets.items h;
@@ -512,7 +519,8 @@ all_differ caps capacity done here number old new tolds text named followed gone
           (goes_among caps capacity done here number old [] tolds i named followed gone records
           (standing caps capacity records) (run_of caps capacity (done ++ here ∷ []) records i run)).1;
       lines = map line_as told.lines;
-      told = all_lines caps capacity done here number old tolds told.lines named followed gone told.of_told;
+      told = lines;
+      any = (line.0, line.1);
       is = told.is;
     }
 

@@ -18,3 +18,12 @@ pub mod Placing
 pub mod Steps
 pub mod Walks
 pub mod Verdicts
+pub mod Chars
+pub mod ReadBack
+pub mod Printable
+pub mod PrintableAnswers
+pub mod PrintableReasons
+pub mod PrintableParts
+pub mod PrintableTexts
+pub mod Reports
+pub mod RowForms

@@ -92,6 +92,7 @@ differs caps capacity before here number now asked entry some i run lead may onl
       not-both (shows here.1 e.last) e.step.shown (subst (λ r. shows here.1 r ≡ false) same fails);
   lines = (entry, allowed_line (part_of now asked) entry) ∷ [];
   told = all_lines caps capacity before here.0 now asked entry some i run lead may only;
+  any = ((entry, allowed_line (part_of now asked) entry), inl refl);
   is = refl;
 }
 

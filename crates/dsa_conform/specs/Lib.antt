@@ -1,7 +1,9 @@
 pub mod Seen
 pub mod Allowed
+pub mod Quoted
 pub mod Lines
 pub mod Run
 pub mod Ways
 pub mod ToldLines
+pub mod Forms
 pub mod Worked

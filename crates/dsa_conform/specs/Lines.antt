@@ -6,7 +6,7 @@ use Rattle.dsa_event_text.specs.Text.{count_text}
 use Rattle.dsa_scenario.specs.declared.{actions.Action.{Action}, run.Record.{Record}}
 use Rattle.dsa_scenario.specs.Lines.{record_text}
 use Rattle.dsa_explain_lines.specs.Lines.{asked_words, shown}
-use Rattle.dsa_conform.specs.{Allowed.{queue_taken}, Seen.{Seen, is_seen}}
+use Rattle.dsa_conform.specs.{Allowed.{queue_taken}, Quoted.{seen_text}, Seen.{Seen, is_seen}}
 
 -- how many steps there are, and of how many something was seen (profile)
 abbrev pub conforms_text : ℕ → ℕ → List ℕ
@@ -23,8 +23,8 @@ flag_text false = codes "zf false"
 
 -- what was seen: the answer, then the zero flag (profile)
 abbrev pub seen_words : Option (List ℕ) → Option Bool → List ℕ
-seen_words (Some text) (Some flag) = text ++ codes ", " ++ flag_text flag
-seen_words (Some text) None = text
+seen_words (Some text) (Some flag) = seen_text text ++ codes ", " ++ flag_text flag
+seen_words (Some text) None = seen_text text
 seen_words None (Some flag) = flag_text flag
 seen_words None None = []
 

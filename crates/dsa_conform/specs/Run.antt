@@ -54,7 +54,7 @@ pub record AreAllLines (caps : Caps) (capacity : ℕ) (before : List (Action × 
   pub listed : AreListed lines
 
 -- some run shows what was seen before, none shows what was seen of this step too, and the text tells what
--- was allowed (profile)
+-- was allowed, which is one answer at least (profile)
 pub record IsDifference (caps : Caps) (capacity : ℕ) (before : List (Action × Seen)) (here : Action × Seen)
     (number : ℕ) (text : List ℕ) : Type 0 where
   pub some : List Record
@@ -62,6 +62,7 @@ pub record IsDifference (caps : Caps) (capacity : ℕ) (before : List (Action ×
   pub none : (records : List Record) → ¬ IsShownRun caps capacity (before ++ here ∷ []) records
   pub lines : List (Record × List ℕ)
   pub told : AreAllLines caps capacity before here.0 lines
+  pub any : (line : Record × List ℕ) × In line lines
   pub is : text ≡ difference_text number here.1 lines
 
 -- ---- the steps of a document

@@ -1,7 +1,8 @@
 -- Observations and answers that the worked rows speak of.
 use Rattle.dsa_book.specs.declared.answer.Reply.TheVariants as reply
 use Rattle.dsa_book.specs.declared.event.Event.TheVariants as event
-use Rattle.std.specs.Prelude.{ℕ, Bool, String, true, false, List, [], ◌∷◌, ◌++◌, map, take, Some, None, codes}
+use Rattle.std.specs.Prelude.{ℕ, Bool, String, true, false, List, [], ◌∷◌, ◌++◌, map, take, Some, None, codes, ⊤}
+use Rattle.std.specs.{Char.{encode_utf8}, Str.{chars}}
 use Rattle.std.specs.declared.{alloc.Global.{Global}, vec.Vec.{Vec}}
 use Rattle.dsa_book.specs.declared.answer.{Ticket.{Ticket}, DispatchAnswer.TheVariants.{Taken}}
 use Rattle.dsa_book.specs.declared.answer.{SubmitAnswer.{SubmitAnswer, TheVariants.{Accepted, Dropped}}}
@@ -18,7 +19,8 @@ use Rattle.dsa_scenario.specs.declared.actions.Action.{Action, TheVariants.{Ask,
 use Rattle.dsa_scenario.specs.declared.run.Record.{Record, TheVariants.{Stepped, Refused}}
 use Rattle.dsa_scenario.specs.{Steps.{standing}, Worked.{record_ticket, stepped, fill, caps_of_a_run, queue_of_a_run}}
 use Rattle.dsa_scenario.specs.Worked.{group_of_a_run, records_of_a_run, submission_of_a_run, smallest_caps}
-use Rattle.dsa_scenario.specs.Worked.{smallest_caps_text, document_text}
+use Rattle.json.specs.Print.{escape_byte}
+use Rattle.dsa_scenario.specs.Worked.{smallest_caps_text, document_text, digits_on_literals}
 use Rattle.dsa_conform.specs.{declared.{told.{Line.{Line}, Told.{Told}}, way.Way.{Way}}, Seen.{Seen}, Ways.{RunFrom}}
 
 -- the text of an answer was seen
@@ -227,3 +229,10 @@ document_of steps = document_text smallest_caps_text (codes "9") steps
 -- a poll with a further key
 abbrev pub poll_with : List ℕ → List ℕ
 poll_with field = codes "{\"do\":\"poll\"," ++ field ++ codes "}"
+
+-- ---- texts
+
+-- what a row unfolds to compute the words of a text and of a number
+unfoldable pub texts_on_literals : ⊤
+unfolding digits_on_literals encode_utf8 chars escape_byte
+texts_on_literals = tt

@@ -5,6 +5,7 @@ ghost use Rattle.dsa_conform.specs.Lines.{flag_text, seen_words, seen_line, allo
 ghost use Rattle.dsa_conform.specs.Seen.{seen_as};
 
 use crate::observed::Observed;
+use crate::quoted::add_seen_text;
 use dsa_explain_lines::{add_asked, add_shown};
 use dsa_scenario::{Record, add_answer};
 use itoa::Buffer;
@@ -36,11 +37,11 @@ fn add_seen_words(text: &mut String, seen: &Observed<'_>) -> Result<(), AllocErr
 {
     match (seen.answer, seen.zf) {
         (Some(answer), Some(flag)) => {
-            text.push_str(answer)?;
+            add_seen_text(text, answer)?;
             text.push_str(", ")?;
             text.push_str(flag_text(flag))
         }
-        (Some(answer), None) => text.push_str(answer),
+        (Some(answer), None) => add_seen_text(text, answer),
         (None, Some(flag)) => text.push_str(flag_text(flag)),
         (None, None) => Ok(()),
     }

@@ -9,8 +9,10 @@
 mod alike;
 mod difference;
 mod following;
+pub mod laws;
 mod observed;
 mod offering;
+mod quoted;
 mod rendering;
 pub mod rows;
 mod shown;

@@ -26,6 +26,8 @@ ghost use Rattle.dsa_conform.specs.declared.following.Followed.TheVariants as fo
 ghost use Rattle.dsa_conform.specs.declared.following.Followed.TheVariants.{Shown};
 ghost use Rattle.dsa_conform.specs.Seen.{seen_of, observation_of, seen_as, shows, zf_of, is_seen, AreShown};
 ghost use Rattle.dsa_conform.specs.Allowed.{IsAllowed, AreAllowed, IsAscending, NoneShows, AreSeenAlike, HasOneAnswer, IsNoDispatch, IsFollowed, offers, queue_taken};
+ghost use Rattle.std.specs.Str.{encode_utf8_all};
+ghost use Rattle.dsa_conform.specs.{Forms.{IsLineWith, IsReport}, Quoted.{seen_text}};
 ghost use Rattle.dsa_conform.specs.Lines.{AreListed, allowed_line, conforms_text, seen_count, seen_line, difference_text};
 ghost use Rattle.dsa_conform.specs.Run.{IsShownRun, IsAllowedLine, IsReason, AreAllLines, IsDifference, AreRead, IsUnreadAt, IsConforming, IsDiffering, IsConformance, IsFollowedTo, IsOtherFault};
 ghost use Rattle.dsa_conform.specs.declared.{told.Told.{Told}, way.Way.{Way}};
@@ -250,7 +252,7 @@ pub fn a_run()
 {}
 
 /// What is told.
-#[tactic(auto, unfolding(dsa_scenario::specs::Worked::digits_on_literals))]
+#[tactic(auto, unfolding(crate::specs::Worked::texts_on_literals))]
 pub fn texts()
     ensures conforms { conforms_text 9 4 ≡ codes "conforms: 9 steps, 4 answers seen\n" }
     ensures one { conforms_text 1 1 ≡ codes "conforms: 1 step, 1 answer seen\n" }
@@ -270,10 +272,70 @@ pub fn texts()
     ensures both { seen_line (answered_with (codes "accepted 3") false)
         ≡ codes "seen: accepted 3, zf false\n" }
     ensures nothing { seen_line nothing_seen ≡ codes "seen: \n" }
+    ensures not_plain { seen_line (answered (codes "idle\n")) ≡ codes "seen: \"idle\\u000a\"\n" }
+    ensures not_plain_with_flag { seen_line (answered_with (codes "\"") true)
+        ≡ codes "seen: \"\\\"\", zf true\n" }
     ensures none { difference_text 3 (answered (codes "active")) [] ≡ [] }
     ensures flag { difference_text 0 (flagged true)
         ((Refused BadCommand, allowed_line [] (Refused BadCommand)) ∷ [])
         ≡ codes "step 0: command\nseen: zf true\nallowed: refused 13 BadCommand\n" }
+{}
+
+/// A text that was seen, as it is where it is plain, and else in JSON.
+#[tactic(auto, unfolding(crate::specs::Worked::texts_on_literals))]
+pub fn seen_texts()
+    ensures plain { map seen_text (codes "taken 7 from 1" ∷ codes " ~" ∷ [] ∷ [])
+        ≡ codes "taken 7 from 1" ∷ codes " ~" ∷ [] ∷ [] }
+    ensures line_feed { seen_text (codes "idle\nallowed: full")
+        ≡ codes "\"idle\\u000aallowed: full\"" }
+    ensures escape { seen_text (27 ∷ codes "[2J") ≡ codes "\"\\u001b[2J\"" }
+    ensures tab { seen_text (codes "\t") ≡ codes "\"\\u0009\"" }
+    ensures delete { seen_text (127 ∷ []) ≡ codes "\"\\u007f\"" }
+    ensures quote { seen_text (codes "\"full\"") ≡ codes "\"\\\"full\\\"\"" }
+    ensures backslash { seen_text (codes "\\n") ≡ codes "\"\\\\n\"" }
+    ensures letter { seen_text (encode_utf8_all (codes "é")) ≡ codes "\"\\u00e9\"" }
+    ensures each_place { seen_text (encode_utf8_all (0x1000 ∷ 0x100 ∷ []))
+        ≡ codes "\"\\u1000\\u0100\"" }
+    ensures last_unit { seen_text (encode_utf8_all (0xffff ∷ [])) ≡ codes "\"\\uffff\"" }
+    ensures pair { seen_text (encode_utf8_all (0x1f600 ∷ [])) ≡ codes "\"\\ud83d\\ude00\"" }
+    ensures last_pair { seen_text (encode_utf8_all (0x10ffff ∷ [])) ≡ codes "\"\\udbff\\udfff\"" }
+    ensures mixed { seen_text (encode_utf8_all (codes "q1 → q2")) ≡ codes "\"q1 \\u2192 q2\"" }
+{}
+
+/// A line begins with its word, ends at its only line feed, and is printable.
+pub fn lines_of_forms()
+    ensures seen { IsLineWith (codes "seen: ") (codes "seen: idle\n") }
+    ensures empty { IsLineWith (codes "seen: ") (codes "seen: \n") }
+    ensures another_word { ¬ IsLineWith (codes "seen: ") (codes "step 0: poll\n") }
+    ensures no_end { ¬ IsLineWith (codes "seen: ") (codes "seen: idle") }
+    ensures two { ¬ IsLineWith (codes "seen: ") (codes "seen: a\nallowed: b\n") }
+    ensures delete { ¬ IsLineWith (codes "seen: ") (codes "seen: " ++ 127 ∷ codes "\n") }
+    ensures escape { ¬ IsLineWith (codes "allowed: ") (codes "allowed: " ++ 27 ∷ codes "\n") }
+    ensures two_allowed { ¬ IsLineWith (codes "allowed: ") (codes "allowed: a\nallowed: b\n") }
+{}
+
+/// The lines of a document that conforms, of one that differs, and of one with a bad step.
+pub fn reports()
+    ensures conforms { IsReport None (codes "conforms: 1 step, 0 answers seen\n") }
+    ensures one_line { ¬ IsReport None
+        (codes "conforms: 1 step, 0 answers seen\nallowed: nothing\n") }
+    ensures nothing { ¬ IsReport None [] }
+    ensures differs { IsReport (Some (Differs 0))
+        (codes "step 0: poll\nseen: full\nallowed: nothing\n") }
+    ensures more { IsReport (Some (Differs 4))
+        (codes
+        "step 4: dispatch e0\nseen: full\nallowed: taken 7 from 0\nallowed: taken 9 from 2\n") }
+    ensures none_allowed { ¬ IsReport (Some (Differs 0)) (codes "step 0: poll\nseen: full\n") }
+    ensures not_seen { ¬ IsReport (Some (Differs 0))
+        (codes "step 0: poll\nallowed: nothing\nallowed: nothing\n") }
+    ensures no_step { ¬ IsReport (Some (Differs 0)) (codes "conforms: 1 step, 0 answers seen\n") }
+    ensures no_blanks { ¬ IsReport (Some (Differs 0))
+        (codes "step0: poll\nseen: full\nallowed: nothing\n")
+        × ¬ IsReport (Some (Differs 0)) (codes "step 0: poll\nseen:full\nallowed: nothing\n")
+        × ¬ IsReport (Some (Differs 0)) (codes "step 0: poll\nseen: full\nallowed:nothing\n") }
+    ensures bad_step { IsReport (Some (BadStep 0)) [] }
+    ensures before_bad_step { ¬ IsReport (Some (BadStep 0)) (codes "step 0: poll\n") }
+    ensures not_json { ¬ IsReport (Some NotJson) [] }
 {}
 
 /// Which queue an answer tells, and the queues that steps took from.

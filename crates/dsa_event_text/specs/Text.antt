@@ -7,6 +7,7 @@ use Rattle.std.specs.Fmt.{digits}
 use Rattle.dsa_desc.specs.declared.{Descriptor.{Descriptor}, Outcome.{Outcome, TheVariants.{Success, PageFault}}}
 use Rattle.dsa_desc.specs.Descriptor.{is_batch, is_transfer, is_fenced, operation_row}
 use Rattle.dsa_regs.specs.declared.{Command.{Command}, layout.ListUse.{ListUse}}
+use Rattle.dsa_regs.specs.declared.Phase.{Phase, TheVariants.{Off, On, Stopping}}
 use Rattle.dsa_regs.specs.declared.Scope.{Scope, TheVariants.{Device, Queue, Queues, Pasid}}
 use Rattle.dsa_regs.specs.Command.{command_label, scope_of, operand_of_scope}
 use Rattle.dsa_book.specs.declared.event.{Event.{Event}, Portal.{Portal, TheVariants.{Limited, Unlimited}}}
@@ -53,6 +54,13 @@ scope_text (Pasid pasid) = codes " " ++ decimal pasid
 
 abbrev pub command_with_operand : Command → List ℕ
 command_with_operand command = command_label command ++ scope_text (scope_of command)
+
+-- ---- phases (profile)
+
+abbrev pub phase_word : Phase → List ℕ
+phase_word Off = codes "off"
+phase_word On = codes "on"
+phase_word Stopping = codes "stopping"
 
 -- ---- lists (profile)
 

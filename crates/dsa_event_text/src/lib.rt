@@ -12,6 +12,7 @@ mod descriptors;
 mod events;
 mod lists;
 mod numbers;
+mod phases;
 pub mod rows;
 
 /// What comes of adding to a text, which may want memory.
@@ -22,3 +23,4 @@ pub use descriptors::add_descriptor;
 pub use events::{add_event, portal_label};
 pub use lists::add_list;
 pub use numbers::{add_count, add_number, one_or_many};
+pub use phases::phase_word;

@@ -3,12 +3,13 @@
 ghost use Rattle.std.specs.Prelude.{◌≡◌, [], ◌∷◌, codes, map};
 ghost use Rattle.dsa_desc.specs.declared.Outcome.TheVariants.{Success, PageFault};
 ghost use Rattle.dsa_regs.specs.declared.Command.TheVariants.{EnableDevice, DisableDevice, DrainAll, AbortAll, ResetDevice, EnableWq, DisableWq, DrainWq, AbortWq, ResetWq, DrainPasid, AbortPasid};
+ghost use Rattle.dsa_regs.specs.declared.Phase.TheVariants.{Off, On, Stopping};
 ghost use Rattle.dsa_regs.specs.declared.layout.ListUse.TheVariants as list;
 ghost use Rattle.dsa_regs.specs.Config.{zero_queue, zero_group};
 ghost use Rattle.dsa_book.specs.declared.event.Event.TheVariants.{Submit, Dispatch, Fetch, Start, Finish, Issue, Poll, WriteQueue, WriteGroup, ClearError};
 ghost use Rattle.dsa_book.specs.declared.event.Kind.TheVariants.{Enqcmd, Movdir64b};
 ghost use Rattle.dsa_book.specs.declared.event.Portal.TheVariants.{Limited, Unlimited};
-ghost use Rattle.dsa_event_text.specs.Text.{command_with_operand, count_text, descriptor_text, event_text, list_text};
+ghost use Rattle.dsa_event_text.specs.Text.{command_with_operand, count_text, descriptor_text, event_text, list_text, phase_word};
 ghost use Rattle.dsa_event_text.specs.Worked.{desc, mask, page_move, event_ticket};
 
 /// What is counted is singular after 1 alone.
@@ -26,6 +27,12 @@ pub fn counts()
 pub fn lists()
     ensures { map list_text (list.Queue 1 ∷ list.Progress 2 ∷ list.Members 13 ∷ [])
         ≡ codes "q1" ∷ codes "e2" ∷ codes "batch of e13" ∷ [] }
+{}
+
+/// Phases.
+pub fn phases()
+    ensures { map phase_word (Off ∷ On ∷ Stopping ∷ [])
+        ≡ codes "off" ∷ codes "on" ∷ codes "stopping" ∷ [] }
 {}
 
 /// Descriptors: the operation, the size where it counts, and the fence.

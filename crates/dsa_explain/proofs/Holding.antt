@@ -6,12 +6,11 @@ use Rattle.std.proofs.lemmas.{Bool.{cases_Bool}, Grind.{common_steps}}
 use Rattle.std.proofs.lemmas.List.{map-append, Elements.{filter-append}, Folds.{find-append}}
 use Rattle.std.specs.{List.{list_any, slice_get}, Option.{option_map, option_or}}
 use Rattle.dsa_regs.specs.{declared.{Caps.{Caps}, layout.ListUse.{ListUse}}, Caps.{list_use, list_count, list_number}}
-use Rattle.dsa_regs.specs.{declared.Command.{Command}, Command.{scope_of}}
-use Rattle.dsa_book.specs.{State.{State}, Commands.{is_in_scope}}
+use Rattle.dsa_book.specs.State.{State}
 use Rattle.dsa_laws.specs.WellFormed.{HasShape}
 use Rattle.dsa_store.specs.{declared.entry.Entry.{Entry}, Content.{HeldEntry, Content, chain, all_held}}
 use Rattle.dsa_explain.specs.declared.held.ListedEntry.{ListedEntry}
-use Rattle.dsa_explain.specs.Held.{held_in_list, held_from, held_entry_of, Loss, removed_names, loss_of, losses_from}
+use Rattle.dsa_explain.specs.Held.{held_in_list, held_from, held_entry_of, NamedList, names_where, named_list, lists_from}
 
 -- ---- one list
 
@@ -93,39 +92,37 @@ pub map-map : {X Y Z : Type 0} (g : Y → Z) (f : X → Y) (xs : List X) → map
 map-map g f [] = refl
 map-map g f (x ∷ xs) = grind (arith, map-map g f xs)
 
--- ---- the names that lists lose
+-- ---- names, list by list
 
--- a list that loses nothing has no names
-lost-names : (list : ListUse) (names : List ℕ) (more : List Loss)
-    → flat_map (λ (loss : Loss). loss.1) (loss_of list names ++ more)
-    ≡ names ++ flat_map (λ (loss : Loss). loss.1) more
-lost-names list [] more = refl
-lost-names list (name ∷ names) more = refl
+-- a list of which nothing passes has no names
+list-names : (list : ListUse) (names : List ℕ) (more : List NamedList)
+    → flat_map (λ (named : NamedList). named.1) (named_list list names ++ more)
+    ≡ names ++ flat_map (λ (named : NamedList). named.1) more
+list-names list [] more = refl
+list-names list (name ∷ names) more = refl
 
 named-told : (list : ListUse) (l : List HeldEntry)
     → map (λ (h : ListedEntry). h.entry.name) (map (held_in_list list) l) ≡ map (λ (s : HeldEntry). s.1.name) l
 named-told list l = map-map (λ (h : ListedEntry). h.entry.name) (held_in_list list) l
 
-pub all-lost : (caps : Caps) (command : Command) (n : ℕ) (content : Content)
-    → flat_map (λ (loss : Loss). loss.1) (losses_from caps command n content)
-    ≡ map (λ (h : ListedEntry). h.entry.name)
-    (filter (λ (h : ListedEntry). is_in_scope (scope_of command) h.entry) (held_from caps n content))
-all-lost caps command n [] = refl
-all-lost caps command n (l ∷ ls) =
-    lost-names (list_use caps n) (removed_names command l) (losses_from caps command (suc n) ls)
+pub all-named : (caps : Caps) (p : Entry → Bool) (n : ℕ) (content : Content)
+    → flat_map (λ (named : NamedList). named.1) (lists_from caps p n content)
+    ≡ map (λ (h : ListedEntry). h.entry.name) (filter (λ (h : ListedEntry). p h.entry) (held_from caps n content))
+all-named caps p n [] = refl
+all-named caps p n (l ∷ ls) =
+    list-names (list_use caps n) (names_where p l) (lists_from caps p (suc n) ls)
     ∙ rw (
-      all-lost caps command (suc n) ls,
+      all-named caps p (suc n) ls,
       filter-append,
-      filter-told (λ (e : Entry). is_in_scope (scope_of command) e) (list_use caps n) l,
+      filter-told p (list_use caps n) l,
       map-append,
       named-told,
     ) refl
 
-losses-step : (caps : Caps) (command : Command) (n : ℕ) (content : Content) → n < length content
-    → losses_from caps command n (drop n content)
-    ≡ loss_of (list_use caps n) (removed_names command (chain content n))
-    ++ losses_from caps command (suc n) (drop (suc n) content)
-losses-step caps command n content h = rw (drop-cons content n [] h) refl
+lists-step : (caps : Caps) (p : Entry → Bool) (n : ℕ) (content : Content) → n < length content
+    → lists_from caps p n (drop n content)
+    ≡ named_list (list_use caps n) (names_where p (chain content n)) ++ lists_from caps p (suc n) (drop (suc n) content)
+lists-step caps p n content h = rw (drop-cons content n [] h) refl
 
 -- ---- what a list has, and what the lists after it
 
@@ -148,16 +145,16 @@ module _ (s : State) (device told : Caps) (shape : HasShape device s.work) (same
       let more : n + 1 ≡ suc n = omega arith in
       rw (more, held-step s.work.setup.caps n s.work.content there, shape.same_caps, ← same, number, ← found) refl
 
-  -- what it loses comes first
-  pub loss-step : (command : Command) → losses_from s.work.setup.caps command n (drop n s.work.content)
-      ≡ loss_of list (removed_names command (chain s.work.content (list_number device list)))
-      ++ losses_from s.work.setup.caps command (n + 1) (drop (n + 1) s.work.content)
-  loss-step command =
+  -- its names come first
+  pub names-step : (p : Entry → Bool) → lists_from s.work.setup.caps p n (drop n s.work.content)
+      ≡ named_list list (names_where p (chain s.work.content (list_number device list)))
+      ++ lists_from s.work.setup.caps p (n + 1) (drop (n + 1) s.work.content)
+  names-step p =
       let there : n < length s.work.content = rw (shape.lists, ← same) within in
       let more : n + 1 ≡ suc n = omega arith in
       rw (
         more,
-        losses-step s.work.setup.caps command n s.work.content there,
+        lists-step s.work.setup.caps p n s.work.content there,
         shape.same_caps,
         ← same,
         number,

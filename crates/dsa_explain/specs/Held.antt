@@ -1,13 +1,13 @@
 -- The entries that a device holds, with where they stand.
-use Rattle.std.specs.Prelude.{ℕ, suc, List, [], ◌∷◌, ◌++◌, map, filter, find, Option}
+use Rattle.std.specs.Prelude.{ℕ, suc, Bool, List, [], ◌∷◌, ◌++◌, map, filter, find, Option}
 use Rattle.dsa_regs.specs.declared.{Caps.{Caps}, layout.ListUse.{ListUse}, Command.{Command}}
 use Rattle.dsa_regs.specs.{Caps.{list_use}, Command.{number_of_command, scope_of}}
-use Rattle.dsa_store.specs.Content.{HeldEntry, Content}
+use Rattle.dsa_store.specs.{declared.entry.Entry.{Entry}, Content.{HeldEntry, Content}}
 use Rattle.dsa_book.specs.{State.{State}, Work.{fate_row}, Commands.{is_in_scope}}
 use Rattle.dsa_book.specs.declared.fate.{Fate.TheVariants.{Aborted}, FateRow.{FateRow}}
 use Rattle.dsa_book.specs.declared.note.ActiveCommand.{ActiveCommand}
-use Rattle.dsa_admin.specs.Admin.{is_awaited_by}
-use Rattle.dsa_explain.specs.declared.held.ListedEntry.{ListedEntry}
+use Rattle.dsa_admin.specs.Admin.{is_awaited_by, is_waited_for}
+use Rattle.dsa_explain.specs.declared.held.{ListedEntry.{ListedEntry}, Named.{Named, TheVariants.{Removed, Awaited}}}
 
 -- the entry of an entry in a list that is for this
 abbrev pub held_in_list : ListUse → HeldEntry → ListedEntry
@@ -43,27 +43,42 @@ aborted_entries s command = filter (λ held. is_in_scope (scope_of command) held
 abbrev pub abort_row : Command → ListedEntry → FateRow
 abort_row command held = fate_row (Aborted (number_of_command command)) (held_entry_of held)
 
--- ---- what an abort or a reset removes
+-- ---- names, list by list
 
--- the names of those that the command ends in a list, the front first
-abbrev pub removed_names : Command → List HeldEntry → List ℕ
-removed_names command pairs = map (λ pair. pair.1.name) (filter (λ pair. is_in_scope (scope_of command) pair.1) pairs)
+-- the names of those in a list that pass the test, the front first
+abbrev pub names_where : (Entry → Bool) → List HeldEntry → List ℕ
+names_where test pairs = map (λ pair. pair.1.name) (filter (λ pair. test pair.1) pairs)
 
--- a list, and the names of what it loses
-abbrev pub Loss : Type 0
-Loss = ListUse × List ℕ
+-- a list, and the names of some of its entries
+abbrev pub NamedList : Type 0
+NamedList = ListUse × List ℕ
 
 -- the list with these names, where there are any
-abbrev pub loss_of : ListUse → List ℕ → List Loss
-loss_of list [] = []
-loss_of list (name ∷ names) = (list, name ∷ names) ∷ []
+abbrev pub named_list : ListUse → List ℕ → List NamedList
+named_list list [] = []
+named_list list (name ∷ names) = (list, name ∷ names) ∷ []
 
--- the lists that lose something, where the first of all has that number
-abbrev pub losses_from : Caps → Command → ℕ → Content → List Loss
-losses_from caps command number [] = []
-losses_from caps command number (pairs ∷ lists) =
-    loss_of (list_use caps number) (removed_names command pairs) ++ losses_from caps command (suc number) lists
+-- the lists with entries that pass, where the first of all has that number
+abbrev pub lists_from : Caps → (Entry → Bool) → ℕ → Content → List NamedList
+lists_from caps test number [] = []
+lists_from caps test number (pairs ∷ lists) =
+    named_list (list_use caps number) (names_where test pairs) ++ lists_from caps test (suc number) lists
 
--- the lists that lose something, in the order of the rows of an abort, each with the names that it loses
-abbrev pub losses : State → Command → List Loss
-losses s command = losses_from s.work.setup.caps command 0 s.work.content
+-- the lists with entries that pass, in their order, each with the names of these
+abbrev pub lists_where : (Entry → Bool) → State → List NamedList
+lists_where test s = lists_from s.work.setup.caps test 0 s.work.content
+
+-- the lists that lose something by an abort or a reset, each with the names that it loses
+abbrev pub losses : State → Command → List NamedList
+losses s command = lists_where (is_in_scope (scope_of command)) s
+
+-- the lists with entries that a command waits for which is noted so, each with their names
+abbrev pub awaited_lists : ActiveCommand → State → List NamedList
+awaited_lists noted s = lists_where (is_waited_for noted) s
+
+-- ---- which entries are named
+
+-- those that an abort or a reset removes, or those that a command waits for which is noted so
+abbrev pub is_named_by : Named → Entry → Bool
+is_named_by (Removed command) entry = is_in_scope (scope_of command) entry
+is_named_by (Awaited noted) entry = is_waited_for noted entry

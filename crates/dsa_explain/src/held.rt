@@ -7,9 +7,12 @@ ghost use Rattle.dsa_regs.specs.Command.{number_of_command, scope_of};
 ghost use Rattle.dsa_store.specs.Content.{all_held, chain};
 ghost use Rattle.dsa_book.specs.State.{State};
 ghost use Rattle.dsa_book.specs.Commands.{after_abort, is_in_scope};
-ghost use Rattle.dsa_explain.specs.Held.{held_in_list, held_entry_of, all_entries, aborted_entries, abort_row, losses};
+ghost use Rattle.dsa_book.specs.declared.note.ActiveCommand.{ActiveCommand};
+ghost use Rattle.dsa_admin.specs.Admin.{is_waited_for};
+ghost use Rattle.dsa_explain.specs.Held.{held_in_list, held_entry_of, all_entries, aborted_entries, abort_row, awaited_lists, is_named_by, losses};
 
-use dsa_admin::is_in_scope;
+use dsa_admin::{is_in_scope, is_waited_for};
+use dsa_book::ActiveCommand;
 use dsa_device::Device;
 use dsa_regs::{Command, ListUse, list_count};
 use dsa_store::{Cell, Entry, EntryStore, Walk};
@@ -100,11 +103,25 @@ pub fn aborted_at<S: EntryStore>(
     None
 }
 
-/// Whether the command ends the entry, where it is an abort or a reset.
-pub fn is_removed(command: &Command, entry: &Entry) -> bool
-    ensures { result ≡ is_in_scope (scope_of command.now) entry.now }
-{
-    is_in_scope(&command.scope(), entry)
+/// Which of the held entries are meant.
+#[derive(Clone, Copy, Debug, PartialEq, Eq)]
+pub enum Named {
+    /// Those that the command removes, where it is an abort or a reset.
+    Removed(Command),
+    /// Those that the command waits for, where it is active.
+    Awaited(ActiveCommand),
+}
+
+impl Named {
+    /// Whether this entry is meant.
+    pub fn names(&self, entry: &Entry) -> bool
+        ensures { result ≡ is_named_by self.now entry.now }
+    {
+        match self {
+            Named::Removed(command) => is_in_scope(&command.scope(), entry),
+            Named::Awaited(noted) => is_waited_for(noted, entry),
+        }
+    }
 }
 
 /// The entries with their places are all that are held, in their order.
@@ -120,10 +137,19 @@ pub fn aborted_entries_get_rows()
         ≡ s.work.fates ++ map (abort_row command) (aborted_entries s command) }
 {}
 
-/// The lists that are told of an abort, each with the names that it loses, are those of the rows
-/// that the machine writes down, in their order, and no other.
+/// The lists that lose something by an abort, each with the names that it loses, have the names of
+/// the rows that the machine writes down, in their order, and no other.
 pub fn removed_names_get_rows()
     ensures { (s : State) (command : Command)
-        → flat_map (λ loss. loss.1) (losses s command)
+        → flat_map (λ named. named.1) (losses s command)
         ≡ map (λ held. held.entry.name) (aborted_entries s command) }
+{}
+
+/// The lists of what a command waits for have the names of all held entries that it waits for, in
+/// their order, and no other.
+pub fn awaited_names_are_told()
+    ensures { (s : State) (noted : ActiveCommand)
+        → flat_map (λ named. named.1) (awaited_lists noted s)
+        ≡ map (λ held. held.entry.name)
+        (filter (λ held. is_waited_for noted held.entry) (all_entries s)) }
 {}

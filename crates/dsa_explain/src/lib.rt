@@ -6,6 +6,7 @@
 
 mod awaiting;
 mod buffers;
+mod done;
 mod failing;
 mod held;
 
@@ -13,8 +14,9 @@ pub use awaiting::{
     WaitReason, awaited_entry, commands_wait_for_what_is_told, wait_reason, waits_follow_reasons,
 };
 pub use buffers::kept_for;
+pub use done::{DoneReason, done_reason};
 pub use failing::failed_members_are_named;
 pub use held::{
-    ListedEntry, aborted_at, aborted_entries_get_rows, all_entries_are_told, entries_of_list,
-    is_removed, removed_names_get_rows,
+    ListedEntry, Named, aborted_at, aborted_entries_get_rows, all_entries_are_told,
+    awaited_names_are_told, entries_of_list, removed_names_get_rows,
 };

@@ -1,2 +1,3 @@
 pub mod Joining
-pub mod Losing
+pub mod Naming
+pub mod Reasons

@@ -7,15 +7,22 @@ use Rattle.dsa_engines.specs.declared.reasons.QueueReason.TheVariants as queue
 use Rattle.dsa_engines.specs.declared.reasons.FetchReason.TheVariants as fetch
 use Rattle.dsa_engines.specs.declared.reasons.StartReason.TheVariants as start
 use Rattle.dsa_engines.specs.declared.reasons.FinishReason.TheVariants as finish
+use Rattle.dsa_explain.specs.declared.done.DoneReason.TheVariants as done
 use Rattle.dsa_regs.specs.declared.reasons.CheckReason.TheVariants as check
 use Rattle.dsa_regs.specs.declared.reasons.Named.TheVariants as named
 use Rattle.dsa_regs.specs.declared.reasons.Bound.TheVariants as bound
 use Rattle.dsa_queues.specs.declared.reasons.WriteReason.TheVariants as write
 use Rattle.dsa_queues.specs.declared.reasons.ClearReason.TheVariants as clear
 use Rattle.std.specs.Prelude.{ℕ, Bool, true, false, List, [], ◌∷◌, ◌++◌, flat_map, Option, Some, None, codes, decimal}
-use Rattle.dsa_regs.specs.declared.{Command.{Command}, Phase.{Phase, TheVariants.{Off, On, Stopping}}, layout.ListUse.{ListUse}}
+use Rattle.std.specs.Prelude.{◌*◌, ◌^◌, ◌==◌, cond, nat_lt, Result, Ok, Err}
+use Rattle.std.specs.{Fmt.{digits}, Option.{option_map_or}}
+use Rattle.dsa_desc.specs.Descriptor.{operation_row}
+use Rattle.dsa_explain.specs.declared.done.DoneReason.{DoneReason}
+use Rattle.dsa_regs.specs.{declared.Fault.{Fault}, Command.{command_label, command_of}}
+use Rattle.dsa_book.specs.declared.fate.Fate.{Fate, TheVariants.{Completed, Aborted, Abandoned}}
+use Rattle.dsa_regs.specs.declared.{Command.{Command}, Phase.{Phase}, layout.ListUse.{ListUse}}
 use Rattle.dsa_book.specs.declared.event.{Portal.{Portal}}
-use Rattle.dsa_event_text.specs.Text.{command_with_operand, count_text, list_text, portal_label}
+use Rattle.dsa_event_text.specs.Text.{command_with_operand, count_text, list_text, phase_word, portal_label}
 use Rattle.dsa_queues.specs.declared.reasons.SubmitReason.{SubmitReason}
 use Rattle.dsa_admin.specs.declared.reasons.{IssueReason.{IssueReason}, PollReason.{PollReason}}
 use Rattle.dsa_engines.specs.declared.reasons.{EngineReason.{EngineReason}, QueueReason.{QueueReason}}
@@ -24,7 +31,6 @@ use Rattle.dsa_engines.specs.declared.reasons.FinishReason.{FinishReason}
 use Rattle.dsa_buffers.specs.declared.want.BufferWant.{BufferWant}
 use Rattle.dsa_regs.specs.declared.reasons.{CheckReason.{CheckReason}, Named.{Named}, Bound.{Bound}}
 use Rattle.dsa_explain.specs.declared.{held.ListedEntry.{ListedEntry}}
-use Rattle.dsa_explain.specs.declared.awaiting.WaitReason.{WaitReason}
 use Rattle.dsa_queues.specs.declared.reasons.{WriteReason.{WriteReason}, ClearReason.{ClearReason}}
 
 -- ---- what several sentences have
@@ -37,11 +43,6 @@ counted before n after = before ++ decimal n ++ after
 abbrev pub counted_twice : List ℕ → ℕ → List ℕ → ℕ → List ℕ → List ℕ
 counted_twice before m between n after = before ++ decimal m ++ (between ++ decimal n ++ after)
 
-abbrev pub phase_word : Phase → List ℕ
-phase_word Off = codes "off"
-phase_word On = codes "on"
-phase_word Stopping = codes "stopping"
-
 -- a text and a phase
 abbrev pub phased : List ℕ → Phase → List ℕ
 phased before phase = before ++ phase_word phase
@@ -51,6 +52,9 @@ no_engine e = codes "the device has no e" ++ decimal e
 
 abbrev pub no_group : ℕ → List ℕ
 no_group e = counted (codes "e") e (codes " is of no group")
+
+abbrev pub no_queue : ℕ → List ℕ
+no_queue e = counted (codes "e") e (codes " is of a group without a queue")
 
 -- the numbers by which read buffers do not fit a group
 abbrev pub want_words : BufferWant → List ℕ
@@ -157,6 +161,69 @@ finish_sentence e (finish.MembersLeft left) =
 finish_sentence e (finish.StillToFetch fetched count) = fetched_words e fetched count
 finish_sentence e (finish.DrainWaits first) = counted (codes "the drain waits for ") first (codes "")
 
+-- ---- entries that end without success
+
+-- the operation is none, or is none for a batch
+abbrev pub unsupported_words : ℕ → List ℕ
+unsupported_words op = option_map_or (λ row. row.word ++ codes " is not supported in a batch")
+    (operation_row op) (codes "operation 0x" ++ digits 16 false op ++ codes " is not supported")
+
+-- two to the power of the shift, where it has at most 32 bits
+abbrev pub power_words : ℕ → List ℕ
+power_words shift = cond (nat_lt shift 32) (decimal (2 ^ shift)) (codes "2^" ++ decimal shift)
+
+-- a number below the least that it may be, or above this limit of the queue
+abbrev pub outside_limit_words : List ℕ → ℕ → ℕ → List ℕ → ℕ → ℕ → List ℕ
+outside_limit_words before n least limit shift q = counted before n (cond (nat_lt n least)
+    (codes " is below " ++ decimal least)
+    (codes " is above " ++ power_words shift ++ (limit ++ decimal q)))
+
+-- a status in two hexadecimal digits
+abbrev pub status_digits : ℕ → List ℕ
+status_digits status = cond (nat_lt status 16) (codes "0") [] ++ digits 16 false status
+
+-- how many there are, where one is not all of them
+abbrev pub first_of_words : ℕ → List ℕ
+first_of_words count = cond (nat_lt count 2) [] (codes ", the first of " ++ decimal count)
+
+-- the first of so many members that failed, with its status
+abbrev pub members_failed_words : ℕ → ℕ → ℕ → List ℕ
+members_failed_words first status failed =
+    counted (codes "member ") first (codes " ended with ") ++ status_digits status ++ first_of_words failed
+
+abbrev pub done_sentence : DoneReason → List ℕ
+done_sentence (done.NotSupported op) = unsupported_words op
+done_sentence done.FenceOutside = codes "a fence outside a batch"
+done_sentence (done.SizeOutside size shift q) =
+    outside_limit_words (codes "size ") size 1 (codes ", the transfer limit of q") shift q
+done_sentence (done.CountOutside count shift q) =
+    outside_limit_words (codes "count ") count 2 (codes ", the batch limit of q") shift q
+done_sentence (done.MembersFailed first status failed) = members_failed_words first status failed
+done_sentence done.PageFault = codes "page fault"
+
+-- ---- entries that are gone
+
+-- by the command of which this is the word, without an operand
+abbrev pub by_words : Result Command Fault → List ℕ
+by_words (Ok command) = codes " by " ++ command_label command
+by_words (Err fault) = []
+
+abbrev pub fate_verb : Fate → List ℕ
+fate_verb (Completed status) = codes " has completed"
+fate_verb (Aborted command) = codes " was aborted"
+fate_verb Abandoned = codes " was abandoned"
+
+abbrev pub cause_words : Fate → List ℕ
+cause_words (Aborted command) = by_words (command_of (command * 2 ^ 20))
+cause_words fate = []
+
+-- how the entry of this name ended
+abbrev pub fate_sentence : ℕ → Fate → List ℕ
+fate_sentence name fate = decimal name ++ fate_verb fate ++ cause_words fate
+
+abbrev pub unnamed_sentence : ℕ → List ℕ
+unnamed_sentence name = codes "no entry has the name " ++ decimal name
+
 -- ---- commands
 
 -- a field of a queue is above what it may be
@@ -247,45 +314,46 @@ abbrev pub first_words : Option ListedEntry → List ℕ
 first_words None = []
 first_words (Some held) = codes ", first for " ++ held_words held
 
--- the active command, how many entries it waits for, and the first of them
-abbrev pub busy_words : Command → ℕ → Option ListedEntry → List ℕ
-busy_words active awaited first =
-    command_with_operand active
-    ++ count_text (codes " is active, and waits for ") awaited (codes "entry") (codes "entries")
-    ++ first_words first
+-- how many entries the active command waits for, and the first of them
+abbrev pub busy_words : ℕ → Option ListedEntry → List ℕ
+busy_words awaited first =
+    count_text (codes " is active, and waits for ") awaited (codes "entry") (codes "entries") ++ first_words first
+
+abbrev pub ended_words : List ℕ
+ended_words = codes " has ended, and no poll has reported it"
+
+-- the active command, and what it waits for, or that nothing is left
+abbrev pub active_words : Command → ℕ → Option ListedEntry → List ℕ
+active_words active awaited first = command_with_operand active
+    ++ cond (awaited == 0) ended_words (busy_words awaited first)
 
 -- with the first entry that is awaited
 abbrev pub issue_sentence : Option ListedEntry → IssueReason → List ℕ
-issue_sentence first (issue.Busy active awaited) = busy_words active awaited first
+issue_sentence first (issue.Busy active awaited) = active_words active awaited first
 issue_sentence first (issue.NoQueue q) = named_words q
 issue_sentence first (issue.WrongPhase q phase) = whose_words q ++ phased (codes " is ") phase
 issue_sentence first (issue.Check reason) = check_sentence reason
 
--- how many entries the command waits for, and the first of them
-abbrev pub wait_words : ℕ → Option ListedEntry → List ℕ
-wait_words awaited first =
-    count_text (codes "the command waits for ") awaited (codes "entry") (codes "entries") ++ first_words first
+-- how many entries the command waits for
+abbrev pub wait_count : ℕ → List ℕ
+wait_count awaited = count_text (codes "the command waits for ") awaited (codes "entry") (codes "entries")
 
 -- with the first entry that is awaited
 abbrev pub poll_sentence : Option ListedEntry → PollReason → List ℕ
 poll_sentence first poll.Nothing = codes "no command is active"
-poll_sentence first (poll.Waits awaited) = wait_words awaited first
+poll_sentence first (poll.Waits awaited) = wait_count awaited ++ first_words first
 
--- of a command that is answered active
-abbrev pub wait_sentence : WaitReason → List ℕ
-wait_sentence reason = wait_words reason.awaited (Some reason.first)
+-- ---- names, list by list
 
--- ---- what a command removes
+-- what stands before the first name of a list
+abbrev pub list_head : List ℕ → List ℕ → ListUse → List ℕ
+list_head mark verb list = mark ++ (list_text list ++ verb)
 
--- what stands before the first name that a list loses
-abbrev pub loss_head : List ℕ → ListUse → List ℕ
-loss_head mark list = mark ++ (list_text list ++ codes " loses ")
-
--- the names that a list loses, the first behind the mark and the list; nothing where there are none
-abbrev pub loss_words : List ℕ → ListUse → List ℕ → List ℕ
-loss_words mark list [] = []
-loss_words mark list (first ∷ others) =
-    (loss_head mark list ++ decimal first) ++ flat_map (λ name. codes ", " ++ decimal name) others
+-- the names of some entries of a list, the first behind the mark, the list and the verb; nothing where there are none
+abbrev pub list_words : List ℕ → List ℕ → ListUse → List ℕ → List ℕ
+list_words mark verb list [] = []
+list_words mark verb list (first ∷ others) =
+    (list_head mark verb list ++ decimal first) ++ flat_map (λ name. codes ", " ++ decimal name) others
 
 -- ---- configurations
 

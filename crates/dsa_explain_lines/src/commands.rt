@@ -1,27 +1,44 @@
 //! Commands that are refused, and one that is not over.
 
 ghost use Rattle.dsa_event_text.specs.Added.{Adds};
-ghost use Rattle.dsa_explain_lines.specs.Sentences.{busy_words, first_words, held_words, issue_sentence, named_words, poll_sentence, wait_sentence, wait_words, whose_words};
+ghost use Rattle.dsa_explain_lines.specs.Sentences.{active_words, busy_words, ended_words, first_words, held_words, issue_sentence, named_words, poll_sentence, wait_count, whose_words};
 
 use crate::checks::add_check_reason;
 use crate::words::{add_counted, add_phase};
 use dsa_device::{IssueReason, PollReason};
 use dsa_event_text::{Added, add_command, add_count, add_list, add_number};
-use dsa_explain::{ListedEntry, WaitReason};
+use dsa_explain::ListedEntry;
 use dsa_regs::Command;
 
-fn add_busy(text: &mut String, active: &Command, awaited: u64, first: &Option<ListedEntry>) -> Added
-    ensures { Adds result text.old text.new (busy_words active.now awaited first.now) }
+fn add_busy(text: &mut String, awaited: u64, first: &Option<ListedEntry>) -> Added
+    ensures { Adds result text.old text.new (busy_words awaited first.now) }
+{
+    let before = " is active, and waits for ";
+    add_count(text, before, awaited, "entry", "entries")?;
+    add_first(text, first)
+}
+
+// Says that the command waits for nothing any more.
+fn add_ended(text: &mut String) -> Added
+    ensures { Adds result text.old text.new ended_words }
+{
+    text.push_str(" has ended, and no poll has reported it")
+}
+
+// The active command, and what it waits for.
+fn add_active(
+    text: &mut String,
+    active: &Command,
+    awaited: u64,
+    first: &Option<ListedEntry>,
+) -> Added
+    ensures { Adds result text.old text.new (active_words active.now awaited first.now) }
 {
     add_command(text, active)?;
-    add_count(
-        text,
-        " is active, and waits for ",
-        awaited,
-        "entry",
-        "entries",
-    )?;
-    add_first(text, first)
+    if awaited == 0 {
+        return add_ended(text);
+    }
+    add_busy(text, awaited, first)
 }
 
 // The queue that is missing, where one is named.
@@ -54,7 +71,7 @@ pub fn add_issue_reason(
     ensures { Adds result text.old text.new (issue_sentence first.now reason.now) }
 {
     match reason {
-        IssueReason::Busy { active, awaited } => add_busy(text, active, *awaited, first),
+        IssueReason::Busy { active, awaited } => add_active(text, active, *awaited, first),
         IssueReason::NoQueue { queue } => add_named(text, *queue),
         IssueReason::WrongPhase { queue, phase } => {
             add_whose(text, *queue)?;
@@ -82,19 +99,11 @@ fn add_first(text: &mut String, first: &Option<ListedEntry>) -> Added
     add_held(text, held)
 }
 
-// How many entries a command waits for, and the first of them.
-fn add_wait(text: &mut String, awaited: u64, first: &Option<ListedEntry>) -> Added
-    ensures { Adds result text.old text.new (wait_words awaited first.now) }
+/// Adds how many entries a command waits for.
+pub fn add_wait_count(text: &mut String, awaited: u64) -> Added
+    ensures { Adds result text.old text.new (wait_count awaited) }
 {
-    add_count(text, "the command waits for ", awaited, "entry", "entries")?;
-    add_first(text, first)
-}
-
-/// Adds the sentence of what a command waits for that is answered active.
-pub fn add_wait_reason(text: &mut String, reason: &WaitReason) -> Added
-    ensures { Adds result text.old text.new (wait_sentence reason.now) }
-{
-    add_wait(text, u64::from(reason.awaited), &Some(reason.first))
+    add_count(text, "the command waits for ", awaited, "entry", "entries")
 }
 
 /// Adds the sentence of why the active command is not over, with the first entry that it waits for.
@@ -103,6 +112,9 @@ pub fn add_poll_reason(text: &mut String, first: &Option<ListedEntry>, reason: &
 {
     match *reason {
         PollReason::Nothing => text.push_str("no command is active"),
-        PollReason::Waits { awaited } => add_wait(text, awaited, first),
+        PollReason::Waits { awaited } => {
+            add_wait_count(text, awaited)?;
+            add_first(text, first)
+        }
     }
 }

@@ -5,11 +5,13 @@ ghost use Rattle.dsa_base.specs.Numbers.{numbers_below};
 ghost use Rattle.dsa_event_text.specs.Added.{Adds};
 ghost use Rattle.dsa_book.specs.Work.{front_of};
 ghost use Rattle.dsa_engines.specs.{Batch.{name_of_entry}, Dispatch.{queue_reason}};
-ghost use Rattle.dsa_explain_lines.specs.Parts.{dispatch_part, joint, queue_part};
+ghost use Rattle.dsa_explain_lines.specs.Parts.{any_reason, dispatch_part, joint, queue_part, queues_part};
 ghost use Rattle.dsa_explain_lines.specs.Sentences.{engine_sentence, front_words, queue_sentence};
 
 use crate::keeping::add_queue_keeping;
-use crate::words::{add_counted, add_counted_twice, add_no_engine, add_no_group, add_want};
+use crate::words::{
+    add_counted, add_counted_twice, add_no_engine, add_no_group, add_no_queue, add_want,
+};
 use dsa_device::Device;
 use dsa_engines::{EngineReason, QueueReason};
 use dsa_event_text::{Added, add_count, add_number};
@@ -75,16 +77,27 @@ fn front_name<S: EntryStore>(device: &Device<S>, queue: u16) -> u32
     }
 }
 
+// Whether a queue below this number has a reason.
+fn any_reason<S: EntryStore>(device: &Device<S>, engine: u16, queues: u16) -> bool
+    ensures { result ≡ any_reason device.now.state.work engine queues }
+{
+    for queue in 0..queues {
+        if device.queue_reason(engine, queue).is_some() {
+            return true;
+        }
+    }
+    false
+}
+
 // What stands before the queue's reason: the mark, or what joins it to one before.
 fn joint<S: EntryStore>(device: &Device<S>, engine: u16, queue: u16) -> &'static str
     ensures { result.now ≡ joint device.now.state.work engine queue }
 {
-    for other in 0..queue {
-        if device.queue_reason(engine, other).is_some() {
-            return "; ";
-        }
+    if any_reason(device, engine, queue) {
+        "; "
+    } else {
+        ": "
     }
-    ": "
 }
 
 // The reason of the queue, where it has one.
@@ -112,13 +125,25 @@ fn add_queues<S: EntryStore>(text: &mut String, device: &Device<S>, engine: u16)
     Ok(())
 }
 
+// The reason of each queue of the group of an idle engine, or that the group has no queue.
+fn add_queues_part<S: EntryStore>(text: &mut String, device: &Device<S>, engine: u16) -> Added
+    ensures { Adds result text.old text.new (queues_part device.now.state.work engine) }
+{
+    device.state_is_replay();
+    if any_reason(device, engine, device.caps().queues) {
+        return add_queues(text, device, engine);
+    }
+    text.push_str(": ")?;
+    add_no_queue(text, engine)
+}
+
 /// Adds why the engine takes nothing: its own reason, or that of each queue of its group.
 pub fn add_dispatch_part<S: EntryStore>(text: &mut String, device: &Device<S>, engine: u16) -> Added
     ensures { Adds result text.old text.new (dispatch_part device.now.state.work engine) }
 {
     device.state_is_replay();
     let Some(reason) = device.engine_reason(engine) else {
-        return add_queues(text, device, engine);
+        return add_queues_part(text, device, engine);
     };
     text.push_str(": ")?;
     add_engine_reason(text, engine, &reason)

@@ -8,9 +8,12 @@
 mod checks;
 mod commands;
 mod dispatch;
+mod ended;
+mod ends;
 mod engines;
 mod groups;
 mod keeping;
+pub mod laws;
 mod lines;
 mod parts;
 mod removals;
@@ -20,8 +23,10 @@ mod words;
 mod writes;
 
 pub use checks::add_check_reason;
-pub use commands::{add_issue_reason, add_poll_reason, add_wait_reason};
+pub use commands::{add_issue_reason, add_poll_reason, add_wait_count};
 pub use dispatch::{add_engine_reason, add_queue_reason};
+pub use ended::add_unended;
+pub use ends::add_done_reason;
 pub use engines::{add_fetch_reason, add_finish_reason, add_start_reason};
 pub use keeping::{add_queue_keeping, add_start_keeping};
 pub use lines::{add_asked, add_line, add_shown};

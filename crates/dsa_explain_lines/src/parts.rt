@@ -1,25 +1,31 @@
 //! What a line tells behind an answer.
 
+ghost use Rattle.std.specs.Prelude.{◌++◌, codes};
 ghost use Rattle.dsa_event_text.specs.Added.{Adds};
 ghost use Rattle.dsa_book.specs.Machine.{intake_of};
 ghost use Rattle.dsa_queues.specs.{Submission.{submit_reason}, Write.{clear_reason, write_group_reason, write_queue_reason}};
 ghost use Rattle.dsa_admin.specs.Command.{poll_reason};
-ghost use Rattle.dsa_engines.specs.{Batch.{fetch_reason}, Finish.{finish_reason}};
+ghost use Rattle.dsa_engines.specs.Batch.{fetch_reason};
+ghost use Rattle.dsa_explain.specs.Done.{done_reason};
 ghost use Rattle.dsa_explain.specs.Held.{awaited_entry};
-ghost use Rattle.dsa_explain_lines.specs.Sentences.{clear_sentence, fetch_sentence, finish_sentence, poll_sentence, submit_sentence, write_sentence};
-ghost use Rattle.dsa_explain_lines.specs.Parts.{event_part, issue_part, part_of, start_part, told_of};
+ghost use Rattle.dsa_explain_lines.specs.Sentences.{clear_sentence, done_sentence, fetch_sentence, no_engine, poll_sentence, submit_sentence, write_sentence};
+ghost use Rattle.dsa_explain_lines.specs.Parts.{event_part, finish_part, issue_part, part_of, start_part, told_of};
 
 use crate::commands::{add_issue_reason, add_poll_reason};
 use crate::dispatch::add_dispatch_part;
-use crate::engines::{add_fetch_reason, add_finish_reason, add_start_reason};
+use crate::ended::add_unended;
+use crate::ends::add_done_reason;
+use crate::engines::{add_fetch_reason, add_start_reason};
 use crate::keeping::add_start_keeping;
 use crate::removals::add_deed_part;
 use crate::submissions::add_submit_reason;
+use crate::words::add_no_engine;
 use crate::writes::{add_clear_reason, add_write_reason};
 use dsa_book::{Event, Kind, Portal, Ticket};
+use dsa_desc::Outcome;
 use dsa_device::{Device, WriteReason};
 use dsa_event_text::{Added, add_count};
-use dsa_explain::awaited_entry;
+use dsa_explain::{awaited_entry, done_reason};
 use dsa_regs::{Command, Fault};
 use dsa_store::EntryStore;
 
@@ -52,9 +58,20 @@ fn add_fetch_part<S: EntryStore>(text: &mut String, device: &Device<S>, engine: 
     add_fetch_reason(text, engine, &reason)
 }
 
+fn add_missing_engine(text: &mut String, engine: u16) -> Added
+    ensures { Adds result text.old text.new (codes ": " ++ no_engine engine) }
+{
+    text.push_str(": ")?;
+    add_no_engine(text, engine)
+}
+
 fn add_start_part<S: EntryStore>(text: &mut String, device: &Device<S>, engine: u16) -> Added
     ensures { Adds result text.old text.new (start_part device.now.state.work engine) }
 {
+    device.state_is_replay();
+    if engine >= device.caps().engines {
+        return add_missing_engine(text, engine);
+    }
     let Some(reason) = device.start_reason(engine) else {
         return Ok(());
     };
@@ -63,20 +80,39 @@ fn add_start_part<S: EntryStore>(text: &mut String, device: &Device<S>, engine: 
     add_start_keeping(text, device, &reason)
 }
 
+// Why an entry ends without success, where it does.
+fn add_done_part<S: EntryStore>(
+    text: &mut String,
+    device: &Device<S>,
+    engine: u16,
+    ticket: Ticket,
+    outcome: Outcome,
+) -> Added
+    ensures { Adds result text.old text.new
+        (told_of done_sentence (done_reason device.now.state.work engine ticket outcome)) }
+{
+    let Some(reason) = done_reason(device, engine, ticket, outcome) else {
+        return Ok(());
+    };
+    text.push_str(": ")?;
+    add_done_reason(text, &reason)
+}
+
 fn add_finish_part<S: EntryStore>(
     text: &mut String,
     device: &Device<S>,
     engine: u16,
     ticket: Ticket,
+    outcome: Outcome,
 ) -> Added
     ensures { Adds result text.old text.new
-        (told_of (finish_sentence engine) (finish_reason device.now.state.work engine ticket)) }
+        (finish_part device.now.state.work engine ticket outcome) }
 {
     let Some(reason) = device.finish_reason(engine, ticket) else {
-        return Ok(());
+        return add_done_part(text, device, engine, ticket, outcome);
     };
     text.push_str(": ")?;
-    add_finish_reason(text, engine, &reason)
+    add_unended(text, device, engine, ticket, &reason)
 }
 
 fn add_issue_part<S: EntryStore>(text: &mut String, device: &Device<S>, command: Command) -> Added
@@ -137,7 +173,11 @@ pub fn add_event_part<S: EntryStore>(text: &mut String, device: &Device<S>, even
         Event::Dispatch { engine } => add_dispatch_part(text, device, engine),
         Event::Fetch { engine, .. } => add_fetch_part(text, device, engine),
         Event::Start { engine } => add_start_part(text, device, engine),
-        Event::Finish { engine, ticket, .. } => add_finish_part(text, device, engine, ticket),
+        Event::Finish {
+            engine,
+            ticket,
+            outcome,
+        } => add_finish_part(text, device, engine, ticket, outcome),
         Event::Issue { command } => add_issue_part(text, device, command),
         Event::Poll => add_poll_part(text, device),
         Event::WriteQueue { queue, config } => {

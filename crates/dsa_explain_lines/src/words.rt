@@ -2,10 +2,10 @@
 
 ghost use Rattle.std.specs.Prelude.{◌≡◌};
 ghost use Rattle.dsa_event_text.specs.Added.{Adds};
-ghost use Rattle.dsa_explain_lines.specs.Sentences.{counted, counted_twice, no_engine, no_group, phase_word, phased, want_words};
+ghost use Rattle.dsa_explain_lines.specs.Sentences.{counted, counted_twice, no_engine, no_group, no_queue, phased, want_words};
 
 use dsa_buffers::BufferWant;
-use dsa_event_text::{Added, add_count, add_number};
+use dsa_event_text::{Added, add_count, add_number, phase_word};
 use dsa_regs::Phase;
 use itoa::Buffer;
 
@@ -62,16 +62,6 @@ pub fn add_counted_twice(
     text.push_str(after)
 }
 
-fn phase_word(phase: Phase) -> &'static str
-    ensures { result.now ≡ phase_word phase }
-{
-    match phase {
-        Phase::Off => "off",
-        Phase::On => "on",
-        Phase::Stopping => "stopping",
-    }
-}
-
 /// Adds a text and a phase.
 pub fn add_phase(text: &mut String, before: &str, phase: Phase) -> Added
     ensures { Adds result text.old text.new (phased before.now phase) }
@@ -92,6 +82,18 @@ pub fn add_no_group(text: &mut String, engine: u16) -> Added
     ensures { Adds result text.old text.new (no_group engine) }
 {
     add_counted(text, "e", u32::from(engine), " is of no group")
+}
+
+/// Says that the engine is of a group without a queue.
+pub fn add_no_queue(text: &mut String, engine: u16) -> Added
+    ensures { Adds result text.old text.new (no_queue engine) }
+{
+    add_counted(
+        text,
+        "e",
+        u32::from(engine),
+        " is of a group without a queue",
+    )
 }
 
 /// Adds the numbers by which read buffers do not fit a group.

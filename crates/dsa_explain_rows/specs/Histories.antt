@@ -19,3 +19,10 @@ batch_of_the_second_group =
     to_dedicated (batch 4) 0 0 ∷ step_of_a_take 1 0 0 ∷ member 1 (move 16384) 1 1 ∷ member 1 (move 16384) 2 2 ∷
     member 1 (move 16384) 3 3 ∷ member 1 (move 16384) 4 4 ∷ begun 1 1 1 ∷ begun 1 2 2 ∷ begun 1 3 3 ∷
     to_dedicated (move 16384) 5 5 ∷ []
+
+-- of three members, two run that fail: a Move of no bytes and a Batch in a batch
+abbrev pub two_members_fail : List Step
+two_members_fail =
+    to_shared (batch 3) 0 0 ∷ step_of_a_take 0 0 0 ∷ member 0 (move 0) 1 1 ∷ member 0 (batch 2) 2 2 ∷
+    member 0 no_op 3 3 ∷ begun 0 1 1 ∷ begun 0 2 2 ∷ begun 0 3 3 ∷ ended 0 1 1 0x13 ∷ ended 0 2 2 0x10 ∷
+    ended 0 3 3 0x01 ∷ []

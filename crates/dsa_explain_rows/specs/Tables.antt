@@ -1,13 +1,27 @@
 -- Numbers that differ in each place, of which reasons are made.
-use Rattle.std.specs.Prelude.{◌≡◌, ℕ, true, [], ◌∷◌, None}
-use Rattle.dsa_store.specs.Content.{HeldEntry}
+use Rattle.std.specs.Prelude.{◌≡◌, ℕ, true, [], ◌∷◌, Some, None}
+use Rattle.dsa_regs.specs.Config.{zero_queue}
+use Rattle.dsa_store.specs.{declared.entry.Entry.{Entry}, Content.{HeldEntry}}
+use Rattle.dsa_book.specs.{declared.fate.Fate.TheVariants.{Completed}, State.{Work, opening}}
 use Rattle.dsa_buffers.specs.{Buffers.{Buffers}, declared.want.BufferWant.{BufferWant}}
 use Rattle.dsa_engines.specs.declared.reasons.StartReason.{StartReason, TheVariants.{Fence}}
-use Rattle.dsa_worked.specs.{Setup.{drain, held_entry}, Lawful.{with_buffers}}
+use Rattle.dsa_worked.specs.{Setup.{batch, drain, held_entry, row}, Lawful.{with_buffers}}
+use Rattle.dsa_worked.specs.Uneven.{many_queues, small_queue}
 
 -- a Drain in progress, with the name of the batch of two
 abbrev pub drain_three : HeldEntry
 drain_three = held_entry 1 3 None drain 0 true
+
+-- a batch of nine with name 7, of queue 2
+abbrev pub batch_seven : Entry
+batch_seven = (held_entry 1 7 None (batch 9) 2 true).1
+
+-- of many queues the third alone is written; a member of batch 2 failed, then one of batch 7
+abbrev pub with_failures : Work
+with_failures = record (opening many_queues).work {
+  setup = record (opening many_queues).work.setup { configs = zero_queue ∷ zero_queue ∷ small_queue ∷ [] };
+  fates = row 3 (Some 2) (Completed 0x03) ∷ row 8 (Some 7) (Completed 0x13) ∷ row 9 (Some 7) (Completed 0x01) ∷ [];
+}
 
 -- two groups that use 5 and 6 of 12 read buffers, and may use 8 and 7
 abbrev pub two_groups : Buffers

@@ -21,7 +21,8 @@ ghost use Rattle.dsa_regs.specs.declared.reasons.Named.TheVariants as named;
 ghost use Rattle.dsa_admin.specs.Worked.{by_name, disable_of_queue, drain_of_pasid, drain_of_queue};
 ghost use Rattle.dsa_admin.specs.Command.{fault_of_command, issue_by, issue_reason, poll_answer_by, poll_reason};
 ghost use Rattle.dsa_explain.specs.Wait.{is_late, is_waiting};
-ghost use Rattle.dsa_explain.specs.Held.{abort_row, aborted_entries, losses};
+ghost use Rattle.dsa_explain.specs.Held.{abort_row, aborted_entries, awaited_lists, is_named_by, losses};
+ghost use Rattle.dsa_explain.specs.declared.held.Named.TheVariants.{Awaited, Removed};
 ghost use Rattle.dsa_explain_rows.specs.After.{told_after, told_from_first};
 ghost use Rattle.dsa_explain_rows.specs.Waits.{active_after, held_as, wait_after, awaited_after, lost_after};
 
@@ -184,6 +185,32 @@ pub fn removals()
         ≡ Some ((Queue 0, 1 ∷ []) ∷ []) }
     ensures nothing { told_after (λ s. losses s (AbortPasid 7)) (take 4 abort_of_a_pasid)
         ≡ Some [] }
+{}
+
+/// What a command waits for in each list: of a drain no members and no later names, of a disable
+/// all; and what is named of both.
+pub fn awaited()
+    ensures drain { told_after (λ s. awaited_lists (record { command = DrainAll; mark = 5 }) s)
+        (take 8 abort_of_all_lists)
+        ≡ Some ((Queue 1, 4 ∷ []) ∷ (Progress 0, 0 ∷ []) ∷ (Progress 1, 2 ∷ []) ∷ []) }
+    ensures disable { told_after
+        (λ s. awaited_lists (record { command = DisableWq (masked 1); mark = 0 }) s)
+        (take 8 abort_of_all_lists)
+        ≡ Some ((Queue 0, 5 ∷ []) ∷ (Progress 0, 0 ∷ []) ∷ (Members 0, 1 ∷ []) ∷ []) }
+    ensures nothing { told_after
+        (λ s. awaited_lists (record { command = DrainAll; mark = 0 }) s)
+        (take 8 abort_of_all_lists)
+        ≡ Some [] }
+    ensures named { map
+        (λ pair. is_named_by (Awaited (record { command = DrainAll; mark = 1 })) pair.1)
+        (held_entry 0 0 None no_op 0 true ∷ held_entry 1 1 None no_op 0 true ∷ [])
+        ≡ true ∷ false ∷ [] }
+    ensures removed { map (λ pair. is_named_by (Removed (AbortWq (masked 1))) pair.1)
+        (held_entry 0 0 None no_op 0 true
+        ∷ held_entry 1 1 (Some 0) no_op 0 true
+        ∷ held_entry 2 2 None no_op 1 true
+        ∷ [])
+        ≡ true ∷ true ∷ false ∷ [] }
 {}
 
 /// A disable and a drain wait, and nothing else does.

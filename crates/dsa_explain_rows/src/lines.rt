@@ -1,15 +1,25 @@
 //! The lines of an explanation.
 
-ghost use Rattle.std.specs.Prelude.{◌≡◌, [], ◌∷◌, true, false, codes, map};
+ghost use Rattle.std.specs.Prelude.{◌≡◌, [], ◌∷◌, true, false, codes, map, replicate};
 ghost use Rattle.dsa_regs.specs.declared.Command.TheVariants.{DrainAll};
 ghost use Rattle.dsa_regs.specs.declared.Fault.TheVariants.{BadCommand};
-ghost use Rattle.dsa_book.specs.declared.answer.DispatchAnswer.TheVariants.{Idle, Taken};
+ghost use Rattle.dsa_book.specs.declared.answer.Cause.TheVariants.{AtLimit};
+ghost use Rattle.dsa_book.specs.declared.answer.ClearAnswer.TheVariants as clear;
+ghost use Rattle.dsa_book.specs.declared.answer.DispatchAnswer.TheVariants.{Full, Idle, Taken};
+ghost use Rattle.dsa_book.specs.declared.answer.FetchAnswer.TheVariants as fetch;
+ghost use Rattle.dsa_book.specs.declared.answer.FinishAnswer.TheVariants as finish;
+ghost use Rattle.dsa_book.specs.declared.answer.IssueAnswer.TheVariants as issue;
 ghost use Rattle.dsa_book.specs.declared.answer.IssueAnswer.TheVariants.{Ended};
+ghost use Rattle.dsa_book.specs.declared.answer.PollAnswer.TheVariants as poll;
 ghost use Rattle.dsa_book.specs.declared.answer.PollAnswer.TheVariants.{Nothing};
+ghost use Rattle.dsa_book.specs.declared.answer.Reply.TheVariants as reply;
+ghost use Rattle.dsa_book.specs.declared.answer.StartAnswer.TheVariants as start;
+ghost use Rattle.dsa_book.specs.declared.answer.SubmitAnswer.TheVariants as submit;
+ghost use Rattle.dsa_book.specs.declared.answer.WriteAnswer.TheVariants as write;
 ghost use Rattle.dsa_worked.specs.Setup.{dispatched, issued, no_op, polled, step_of_a_take, ticket, to_shared};
 ghost use Rattle.dsa_scenario.specs.declared.run.Record.TheVariants.{Refused, Stepped};
 ghost use Rattle.dsa_explain_lines.specs.Lines.{asked_words, explained_line, is_taken, line_with, shown};
-ghost use Rattle.dsa_explain_lines.specs.Run.{IsExplanationOf};
+ghost use Rattle.dsa_explain_lines.specs.{Run.{IsExplanationOf}, Success.{is_success}};
 ghost use Rattle.dsa_explain_rows.specs.Lines.{new_device, at_last, steps_of_three, with_two_queues};
 
 /// What was asked, where a word that is no command is told as one word.
@@ -33,6 +43,63 @@ pub fn parts_that_are_shown()
     ensures left_out { shown (codes "why") (Stepped (step_of_a_take 0 0 0)) ≡ [] }
     ensures idle { shown (codes "why") (Stepped (dispatched 0 Idle)) ≡ codes "why" }
     ensures word { shown (codes "why") (Refused BadCommand) ≡ codes "why" }
+{}
+
+/// Which answers need no reason.
+pub fn successes()
+    ensures done { map is_success
+        (reply.Submit (submit.Accepted (ticket 0 0))
+        ∷ reply.Dispatch (Taken (ticket 0 0) 1)
+        ∷ reply.Fetch (fetch.Fetched (ticket 1 1))
+        ∷ reply.Start (start.Started (ticket 1 1))
+        ∷ reply.Finish (finish.Done 0x01)
+        ∷ reply.Issue (Ended 0)
+        ∷ reply.Issue (Ended 2)
+        ∷ reply.Poll poll.Finished
+        ∷ reply.Write write.Written
+        ∷ reply.Clear (clear.Cleared (record { queue = 1; cause = AtLimit; overflow = false }))
+        ∷ [])
+        ≡ replicate 10 true }
+    ensures submissions { map is_success
+        (reply.Submit (submit.Retry AtLimit)
+        ∷ reply.Submit (submit.Dropped AtLimit)
+        ∷ reply.Submit submit.Full
+        ∷ [])
+        ≡ replicate 3 false }
+    ensures engines { map is_success
+        (reply.Dispatch Idle
+        ∷ reply.Dispatch Full
+        ∷ reply.Fetch fetch.NoBatch
+        ∷ reply.Fetch fetch.AllFetched
+        ∷ reply.Fetch fetch.Full
+        ∷ reply.Start start.FenceWait
+        ∷ reply.Start start.NoBuffers
+        ∷ reply.Start (start.Abandoned 2)
+        ∷ reply.Start start.Nothing
+        ∷ reply.Start start.Full
+        ∷ [])
+        ≡ replicate 10 false }
+    ensures ends { map is_success
+        (reply.Finish (finish.Done 0x03)
+        ∷ reply.Finish (finish.Done 0x05)
+        ∷ reply.Finish finish.NotReady
+        ∷ reply.Finish finish.Gone
+        ∷ reply.Finish finish.Full
+        ∷ [])
+        ≡ replicate 5 false }
+    ensures administrator { map is_success
+        (reply.Issue issue.Active
+        ∷ reply.Issue (issue.Refused BadCommand)
+        ∷ reply.Issue issue.Full
+        ∷ reply.Poll poll.Active
+        ∷ reply.Poll Nothing
+        ∷ reply.Poll poll.Full
+        ∷ reply.Write (write.Refused BadCommand)
+        ∷ reply.Write write.Full
+        ∷ reply.Clear clear.Nothing
+        ∷ reply.Clear clear.Full
+        ∷ [])
+        ≡ replicate 10 false }
 {}
 
 /// A line: the number of the step, what was asked and answered, this part, and the end of the line.

@@ -2,7 +2,7 @@
 
 ghost use Rattle.std.specs.Prelude.{◌≡◌, [], ◌∷◌, Some, None, Ok, Err, codes, decimal, map, take};
 ghost use Rattle.dsa_regs.specs.Worked.{caps, dedicated_queue, first_group, second_group, shared_queue};
-ghost use Rattle.dsa_regs.specs.declared.Command.TheVariants.{AbortAll, AbortPasid, DisableDevice, DrainAll, DrainWq, EnableDevice, EnableWq, ResetWq};
+ghost use Rattle.dsa_regs.specs.declared.Command.TheVariants.{AbortAll, AbortPasid, DisableDevice, DrainAll, DrainPasid, DrainWq, EnableDevice, EnableWq, ResetWq};
 ghost use Rattle.dsa_regs.specs.declared.Fault.TheVariants.{BadCommand, BadIndex, Busy, Locked};
 ghost use Rattle.dsa_regs.specs.declared.Scope.TheVariants.{Device, Pasid, Queue};
 ghost use Rattle.dsa_regs.specs.declared.layout.ListUse.TheVariants as list;
@@ -20,7 +20,7 @@ ghost use Rattle.dsa_book.specs.declared.event.Event.TheVariants as event;
 ghost use Rattle.dsa_book.specs.declared.event.Kind.TheVariants.{Enqcmd};
 ghost use Rattle.dsa_book.specs.declared.event.Portal.TheVariants.{Limited};
 ghost use Rattle.dsa_device.specs.Running.{running_at_first};
-ghost use Rattle.dsa_worked.specs.Setup.{cleared, configured, dispatched, enqcmd, enqcmd_unlimited, step_of_a_fetch, finished, step_of_a_group_write, issued, masked, movdir, no_op, polled, step_of_a_queue_write, started, ticket, to_shared, written};
+ghost use Rattle.dsa_worked.specs.Setup.{batch, cleared, configured, dispatched, enqcmd, enqcmd_unlimited, faulted, fenced, step_of_a_fetch, finished, step_of_a_group_write, issued, masked, movdir, move, no_op, polled, step_of_a_queue_write, started, ticket, to_shared, written};
 ghost use Rattle.dsa_worked.specs.Answers.{one_of_two_queues_waits, slots_are_full};
 ghost use Rattle.dsa_worked.specs.Batches.{buffers_of_a_batch, buffers_reserved_for_another, fence_waits};
 ghost use Rattle.dsa_worked.specs.Commands.{abort_of_a_pasid, drain_of_a_queue, old_ticket_is_gone, refused_enables_and_writes};
@@ -30,10 +30,10 @@ ghost use Rattle.dsa_worked.specs.Submissions.{dedicated_queue_overflows, forged
 ghost use Rattle.dsa_regs.specs.declared.Deed.TheVariants.{Disable, Enable};
 ghost use Rattle.dsa_regs.specs.declared.reasons.CheckReason.TheVariants as check;
 ghost use Rattle.dsa_admin.specs.Command.{found_by_check};
-ghost use Rattle.dsa_explain_lines.specs.Parts.{dispatch_part, issue_part, joint, keeping_part, losses_part, part_of, queue_part, room_part, start_part, told_of, word_part};
+ghost use Rattle.dsa_explain_lines.specs.Parts.{dispatch_part, issue_part, joint, keeping_part, lists_part, part_of, queue_part, room_part, start_part, told_of, word_part};
 ghost use Rattle.dsa_explain_rows.specs.After.{of_three_groups, of_two_queues, told_after, told_from_first, with_few_buffers};
-ghost use Rattle.dsa_explain_rows.specs.Histories.{batch_of_the_second_group};
-ghost use Rattle.dsa_explain_rows.specs.Parts.{setup_of, told, idle_with_two_queues};
+ghost use Rattle.dsa_explain_rows.specs.Histories.{batch_of_the_second_group, two_members_fail};
+ghost use Rattle.dsa_explain_rows.specs.Parts.{setup_of, told, told_at_end, idle_with_two_queues};
 
 /// A reason stands behind its mark, and nothing where there is none.
 #[tactic(auto, unfolding(dsa_scenario::specs::Worked::digits_on_literals))]
@@ -62,6 +62,12 @@ pub fn keeping()
 pub fn dispatches()
     ensures no_engine { idle_with_two_queues 3 [] ≡ Some (codes ": the device has no e3") }
     ensures no_group { idle_with_two_queues 2 [] ≡ Some (codes ": e2 is of no group") }
+    ensures no_queue { told_from_first (λ s. dispatch_part s.work 1)
+        (configured shared_queue dedicated_queue first_group (record second_group { queues = 0 }))
+        ≡ Some (codes ": e1 is of a group without a queue") }
+    ensures missing_queue { told_from_first (λ s. dispatch_part s.work 1)
+        (configured shared_queue dedicated_queue first_group (record second_group { queues = 4 }))
+        ≡ Some (codes ": e1 is of a group without a queue") }
     ensures one { idle_with_two_queues 1 [] ≡ Some (codes ": q2 is empty") }
     ensures two { idle_with_two_queues 0 [] ≡ Some (codes ": q0 is empty; q1 is empty") }
     ensures front { idle_with_two_queues 0 (take 3 one_of_two_queues_waits)
@@ -98,6 +104,8 @@ pub fn starts()
         ≡ Some (codes ": the member needs 4 read buffers, group 1 uses 12 of 12, all groups use 12 of 16, and 4 are kept, 4 for group 0") }
     ensures none_on_the_other { told (take 8 fence_waits) (started 1 FenceWait)
         ≡ Some (codes ": no member waits on e1") }
+    ensures no_engine { told (take 8 fence_waits) (started 2 FenceWait)
+        ≡ Some (codes ": the device has no e2") }
     ensures starts { told (take 12 fence_waits) (started 0 FenceWait) ≡ Some [] }
 {}
 
@@ -127,16 +135,16 @@ pub fn checks()
     ensures pasid { found_by_check (setup_of []) Enable (Pasid 5) ≡ None }
 {}
 
-/// The names removed, list by list; the first list follows the mark.
+/// The names, list by list; the first list follows the mark.
 #[tactic(auto, unfolding(dsa_scenario::specs::Worked::digits_on_literals))]
-pub fn losses()
-    ensures two { losses_part (codes ": ")
+pub fn lists()
+    ensures two { lists_part (codes " loses ") (codes ": ")
         ((list.Queue 0, 4 ∷ 7 ∷ []) ∷ (list.Progress 1, 2 ∷ []) ∷ [])
         ≡ codes ": q0 loses 4, 7; e1 loses 2" }
-    ensures three { losses_part (codes ": ")
+    ensures three { lists_part (codes ": ") (codes ", ")
         ((list.Queue 0, 4 ∷ []) ∷ (list.Queue 1, 5 ∷ []) ∷ (list.Members 0, 6 ∷ []) ∷ [])
-        ≡ codes ": q0 loses 4; q1 loses 5; batch of e0 loses 6" }
-    ensures none { losses_part (codes ": ") [] ≡ [] }
+        ≡ codes ", q0: 4; q1: 5; batch of e0: 6" }
+    ensures none { lists_part (codes " loses ") (codes ": ") [] ≡ [] }
 {}
 
 /// A command that is carried out: what it removes, what it waits for, or nothing.
@@ -151,9 +159,16 @@ pub fn deeds()
         ≡ Some (codes ": q1 loses 4; e1 loses 2; batch of e1 loses 3") }
     ensures abort_of_nothing { told_after (λ s. issue_part s AbortAll) [] ≡ Some [] }
     ensures drain { told_after (λ s. issue_part s (DrainWq (masked 1))) (take 1 drain_of_a_queue)
-        ≡ Some (codes ": the command waits for 1 entry, first for 0 in q0") }
+        ≡ Some (codes ": the command waits for 1 entry, q0: 0") }
+    ensures drain_without_members { told_after (λ s. issue_part s DrainAll)
+        (take 8 abort_of_all_lists)
+        ≡ Some (codes ": the command waits for 4 entries, q0: 5; q1: 4; e0: 0; e1: 2") }
+    ensures drain_of_a_pasid { told_after (λ s. issue_part s (DrainPasid 5))
+        (take 4 abort_of_a_pasid)
+        ≡ Some (codes ": the command waits for 2 entries, q0: 0, 2") }
     ensures disable { told_after (λ s. issue_part s DisableDevice) (take 8 abort_of_all_lists)
-        ≡ Some (codes ": the command waits for 6 entries, first for 5 in q0") }
+        ≡ Some (codes
+        ": the command waits for 6 entries, q0: 5; q1: 4; e0: 0; e1: 2; batch of e0: 1; batch of e1: 3") }
     ensures drain_of_nothing { told_after (λ s. issue_part s DrainAll) [] ≡ Some [] }
     ensures enable { told_from_first (λ s. issue_part s EnableDevice)
         (configured shared_queue dedicated_queue first_group second_group)
@@ -177,6 +192,55 @@ pub fn refusals()
         ≡ Some (codes ": the threshold of q0 is 5, above its size of 4") }
 {}
 
+/// An end of an entry that is gone, of a name that none has, and by a ticket with another cell.
+#[tactic(auto, unfolding(dsa_scenario::specs::Worked::digits_on_literals))]
+pub fn gone()
+    ensures completed { told old_ticket_is_gone (finished 0 (ticket 0 1) Gone)
+        ≡ Some (codes ": 1 has completed") }
+    ensures aborted { told (take 3 old_ticket_is_gone) (finished 0 (ticket 0 0) Gone)
+        ≡ Some (codes ": 0 was aborted by abort-all") }
+    ensures abandoned { told (take 9 three_are_abandoned) (finished 0 (ticket 4 4) Gone)
+        ≡ Some (codes ": 4 was abandoned") }
+    ensures unnamed { told (take 3 forged_tickets) (finished 0 (ticket 0 1) Gone)
+        ≡ Some (codes ": no entry has the name 1") }
+    ensures unnamed_elsewhere { told [] (finished 1 (ticket 3 0) Gone)
+        ≡ Some (codes ": no entry has the name 0") }
+    ensures free_cell { told (take 3 forged_tickets) (finished 0 (ticket 1 0) Gone)
+        ≡ Some (codes ": the cell of the ticket holds no entry") }
+    ensures other_cell { told (take 2 abort_of_a_pasid) (finished 0 (ticket 0 1) Gone)
+        ≡ Some (codes ": the cell of the ticket holds 0 by now") }
+    ensures no_engine { told (take 3 old_ticket_is_gone) (finished 2 (ticket 0 0) Gone)
+        ≡ Some (codes ": the device has no e2") }
+{}
+
+/// An end without success, by its status, and with success.
+#[tactic(auto, unfolding(dsa_scenario::specs::Worked::digits_on_literals))]
+pub fn failures()
+    ensures success { map told_at_end (no_op ∷ move 1048576 ∷ []) ≡ Some [] ∷ Some [] ∷ [] }
+    ensures operation { told_at_end (record no_op { op = 0x46 })
+        ≡ Some (codes ": operation 0x46 is not supported") }
+    ensures fence { told_at_end (fenced no_op) ≡ Some (codes ": a fence outside a batch") }
+    ensures sizes { map told_at_end (move 0 ∷ move 1048577 ∷ [])
+        ≡ Some (codes ": size 0 is below 1")
+        ∷ Some (codes ": size 1048577 is above 1048576, the transfer limit of q0") ∷ [] }
+    ensures counts { map told_at_end (batch 1 ∷ batch 9 ∷ [])
+        ≡ Some (codes ": count 1 is below 2")
+        ∷ Some (codes ": count 9 is above 8, the batch limit of q0") ∷ [] }
+    ensures fault { told (take 7 three_are_abandoned) (faulted 0 (ticket 1 1) Gone)
+        ≡ Some (codes ": page fault") }
+    ensures no_transfer { told (take 8 two_members_fail) (faulted 0 (ticket 3 3) Gone)
+        ≡ Some [] }
+    ensures member { told (take 8 two_members_fail) (finished 0 (ticket 2 2) Gone)
+        ≡ Some (codes ": batch is not supported in a batch") }
+    ensures member_of_a_failed_batch { told (take 9 two_members_fail) (finished 0 (ticket 3 3) Gone)
+        ≡ Some [] }
+    ensures one_failed { told (take 11 three_are_abandoned) (finished 0 (ticket 0 0) Gone)
+        ≡ Some (codes ": member 1 ended with 03") }
+    ensures two_failed { told two_members_fail (finished 0 (ticket 0 0) Gone)
+        ≡ Some (codes ": member 1 ended with 13, the first of 2") }
+    ensures none_failed { told (take 15 fence_waits) (finished 0 (ticket 0 0) Gone) ≡ Some [] }
+{}
+
 /// Each other event.
 #[tactic(auto, unfolding(dsa_scenario::specs::Worked::digits_on_literals))]
 pub fn events()
@@ -196,7 +260,7 @@ pub fn events()
     ensures finish_on_the_other { told (take 3 forged_tickets) (finished 1 (ticket 0 0) Gone)
         ≡ Some (codes ": the entry stands in e0") }
     ensures finish { told (take 5 old_ticket_is_gone) (finished 0 (ticket 0 0) Gone)
-        ≡ Some (codes ": the cell of the ticket holds 1 by now") }
+        ≡ Some (codes ": 0 was aborted by abort-all") }
     ensures poll { told (take 4 drain_of_a_queue) (polled poll.Active)
         ≡ Some (codes ": the command waits for 1 entry, first for 0 in q0") }
     ensures queue { told [] (step_of_a_queue_write 2 shared_queue (write.Refused BadIndex))

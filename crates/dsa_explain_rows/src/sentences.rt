@@ -5,6 +5,7 @@ ghost use Rattle.dsa_regs.specs.declared.Command.TheVariants.{DrainAll, DrainPas
 ghost use Rattle.dsa_regs.specs.declared.Phase.TheVariants.{Off, On, Stopping};
 ghost use Rattle.dsa_regs.specs.declared.layout.ListUse.TheVariants.{Members, Progress, Queue};
 ghost use Rattle.dsa_book.specs.declared.event.Portal.TheVariants.{Limited, Unlimited};
+ghost use Rattle.dsa_book.specs.declared.fate.Fate.TheVariants.{Abandoned, Aborted, Completed};
 ghost use Rattle.dsa_queues.specs.declared.reasons.SubmitReason.TheVariants as submit;
 ghost use Rattle.dsa_admin.specs.declared.reasons.IssueReason.TheVariants as issue;
 ghost use Rattle.dsa_admin.specs.declared.reasons.PollReason.TheVariants as poll;
@@ -18,7 +19,8 @@ ghost use Rattle.dsa_regs.specs.declared.reasons.Named.TheVariants as named;
 ghost use Rattle.dsa_regs.specs.declared.reasons.Bound.TheVariants as bound;
 ghost use Rattle.dsa_queues.specs.declared.reasons.WriteReason.TheVariants as write;
 ghost use Rattle.dsa_queues.specs.declared.reasons.ClearReason.TheVariants as clear;
-ghost use Rattle.dsa_explain_lines.specs.Sentences.{check_sentence, clear_sentence, engine_sentence, fetch_sentence, finish_sentence, issue_sentence, kept_words, loss_words, phase_word, poll_sentence, queue_check_words, queue_sentence, start_sentence, submit_sentence, wait_sentence, write_sentence};
+ghost use Rattle.dsa_explain.specs.declared.done.DoneReason.TheVariants as done;
+ghost use Rattle.dsa_explain_lines.specs.Sentences.{check_sentence, clear_sentence, done_sentence, engine_sentence, fate_sentence, fetch_sentence, finish_sentence, issue_sentence, kept_words, list_words, poll_sentence, power_words, queue_check_words, queue_sentence, start_sentence, status_digits, submit_sentence, unnamed_sentence, wait_count, write_sentence};
 ghost use Rattle.dsa_explain_rows.specs.Sentences.{held_at, some_want};
 
 /// Of a submission.
@@ -114,6 +116,48 @@ pub fn ends()
     ensures drain { finish_sentence 0 (finish.DrainWaits 7) ≡ codes "the drain waits for 7" }
 {}
 
+/// Of an entry that ends without success.
+#[tactic(auto, unfolding(dsa_scenario::specs::Worked::digits_on_literals))]
+pub fn failures()
+    ensures no_operation { map (λ op. done_sentence (done.NotSupported op)) (0x06 ∷ 0xab ∷ [])
+        ≡ codes "operation 0x6 is not supported" ∷ codes "operation 0xab is not supported" ∷ [] }
+    ensures in_a_batch { map (λ op. done_sentence (done.NotSupported op)) (0x01 ∷ 0x02 ∷ [])
+        ≡ codes "batch is not supported in a batch" ∷ codes "drain is not supported in a batch"
+        ∷ [] }
+    ensures fence { done_sentence done.FenceOutside ≡ codes "a fence outside a batch" }
+    ensures size { done_sentence (done.SizeOutside 4097 12 5)
+        ≡ codes "size 4097 is above 4096, the transfer limit of q5" }
+    ensures no_size { done_sentence (done.SizeOutside 0 12 5) ≡ codes "size 0 is below 1" }
+    ensures one { done_sentence (done.SizeOutside 1 0 5)
+        ≡ codes "size 1 is above 1, the transfer limit of q5" }
+    ensures largest { map power_words (31 ∷ 32 ∷ []) ≡ codes "2147483648" ∷ codes "2^32" ∷ [] }
+    ensures count { done_sentence (done.CountOutside 5 2 0)
+        ≡ codes "count 5 is above 4, the batch limit of q0" }
+    ensures no_batch { map (λ count. done_sentence (done.CountOutside count 2 0)) (0 ∷ 1 ∷ [])
+        ≡ codes "count 0 is below 2" ∷ codes "count 1 is below 2" ∷ [] }
+    ensures two { done_sentence (done.CountOutside 2 0 0)
+        ≡ codes "count 2 is above 1, the batch limit of q0" }
+    ensures member { done_sentence (done.MembersFailed 6 0x13 1) ≡ codes "member 6 ended with 13" }
+    ensures members { done_sentence (done.MembersFailed 6 0x03 2)
+        ≡ codes "member 6 ended with 03, the first of 2" }
+    ensures digits { map status_digits (0x0f ∷ 0x10 ∷ []) ≡ codes "0f" ∷ codes "10" ∷ [] }
+    ensures fault { done_sentence done.PageFault ≡ codes "page fault" }
+{}
+
+/// Of an entry that is gone, and of a name that none has.
+#[tactic(auto, unfolding(dsa_scenario::specs::Worked::digits_on_literals))]
+pub fn fates()
+    ensures completed { fate_sentence 4 (Completed 3) ≡ codes "4 has completed" }
+    ensures aborted { map (λ command. fate_sentence 0 (Aborted command))
+        (4 ∷ 5 ∷ 9 ∷ 10 ∷ 12 ∷ [])
+        ≡ codes "0 was aborted by abort-all" ∷ codes "0 was aborted by reset-device"
+        ∷ codes "0 was aborted by abort-wq" ∷ codes "0 was aborted by reset-wq"
+        ∷ codes "0 was aborted by abort-pasid" ∷ [] }
+    ensures no_command { fate_sentence 12 (Aborted 13) ≡ codes "12 was aborted" }
+    ensures abandoned { fate_sentence 7 Abandoned ≡ codes "7 was abandoned" }
+    ensures unnamed { unnamed_sentence 167 ≡ codes "no entry has the name 167" }
+{}
+
 /// Of a command that is refused, with the first entry that is awaited; of each what is its own.
 #[tactic(auto, unfolding(dsa_scenario::specs::Worked::digits_on_literals))]
 pub fn commands()
@@ -123,7 +167,7 @@ pub fn commands()
         (issue.Busy (DrainPasid 5) 1)
         ≡ codes "drain-pasid 5 is active, and waits for 1 entry, first for 0 in e1" }
     ensures at_its_end { issue_sentence None (issue.Busy DrainAll 0)
-        ≡ codes "drain-all is active, and waits for 0 entries" }
+        ≡ codes "drain-all has ended, and no poll has reported it" }
     ensures missing { issue_sentence None (issue.NoQueue (Some 9)) ≡ codes "the device has no q9" }
     ensures none_named { issue_sentence None (issue.NoQueue None) ≡ codes "no queue is named" }
     ensures device { issue_sentence None (issue.WrongPhase None Off) ≡ codes "the device is off" }
@@ -138,10 +182,8 @@ pub fn waits()
     ensures nothing { poll_sentence None poll.Nothing ≡ codes "no command is active" }
     ensures waits { poll_sentence (Some (held_at (Members 1) 4)) (poll.Waits 3)
         ≡ codes "the command waits for 3 entries, first for 4 in batch of e1" }
-    ensures active { wait_sentence (record { awaited = 2; first = held_at (Queue 0) 1 })
-        ≡ codes "the command waits for 2 entries, first for 1 in q0" }
-    ensures phases { map phase_word (Off ∷ On ∷ Stopping ∷ [])
-        ≡ codes "off" ∷ codes "on" ∷ codes "stopping" ∷ [] }
+    ensures counts { map wait_count (1 ∷ 2 ∷ [])
+        ≡ codes "the command waits for 1 entry" ∷ codes "the command waits for 2 entries" ∷ [] }
 {}
 
 /// Of the groups, where the device is to be enabled.
@@ -195,15 +237,16 @@ pub fn checks_of_queues()
     ensures no_group { check_sentence (check.NoGroup 4) ≡ codes "no group has q4" }
 {}
 
-/// What a list loses, behind a mark.
+/// The names of a list, behind a mark and a verb.
 #[tactic(auto, unfolding(dsa_scenario::specs::Worked::digits_on_literals))]
-pub fn losses()
-    ensures one { loss_words (codes ": ") (Progress 0) (3 ∷ []) ≡ codes ": e0 loses 3" }
-    ensures three { loss_words (codes "; ") (Queue 2) (4 ∷ 7 ∷ 12 ∷ [])
-        ≡ codes "; q2 loses 4, 7, 12" }
-    ensures members { loss_words (codes ": ") (Members 1) (1 ∷ 2 ∷ [])
-        ≡ codes ": batch of e1 loses 1, 2" }
-    ensures none { loss_words (codes ": ") (Queue 2) [] ≡ [] }
+pub fn lists()
+    ensures one { list_words (codes ": ") (codes " loses ") (Progress 0) (3 ∷ [])
+        ≡ codes ": e0 loses 3" }
+    ensures three { list_words (codes "; ") (codes ": ") (Queue 2) (4 ∷ 7 ∷ 12 ∷ [])
+        ≡ codes "; q2: 4, 7, 12" }
+    ensures members { list_words (codes ", ") (codes ": ") (Members 1) (1 ∷ 2 ∷ [])
+        ≡ codes ", batch of e1: 1, 2" }
+    ensures none { list_words (codes ": ") (codes " loses ") (Queue 2) [] ≡ [] }
 {}
 
 /// Of a configuration that is not written, and of no error.

@@ -10,7 +10,7 @@ ghost use Rattle.dsa_book.specs.declared.answer.Cause.TheVariants.{AtLimit, Wron
 ghost use Rattle.dsa_book.specs.declared.answer.SubmitAnswer.TheVariants.{Dropped, Retry};
 ghost use Rattle.dsa_book.specs.declared.event.Event.TheVariants.{WriteGroup, WriteQueue};
 ghost use Rattle.dsa_book.specs.declared.event.Kind.TheVariants.{Enqcmd, Movdir64b};
-ghost use Rattle.dsa_book.specs.declared.fate.Fate.TheVariants.{Completed};
+ghost use Rattle.dsa_book.specs.declared.fate.Fate.TheVariants.{Abandoned, Aborted, Completed};
 ghost use Rattle.dsa_cells.specs.Invariant.{place_by_owner};
 ghost use Rattle.dsa_device.specs.Made.{is_store_of};
 ghost use Rattle.dsa_engines.specs.Batch.{block_of_group, is_failed_in, told_as};
@@ -20,13 +20,15 @@ ghost use Rattle.dsa_engines.specs.declared.reasons.FinishReason.TheVariants.{El
 ghost use Rattle.dsa_engines.specs.declared.reasons.QueueReason.TheVariants as queue;
 ghost use Rattle.dsa_engines.specs.declared.reasons.StartReason.TheVariants as start;
 ghost use Rattle.dsa_laws.specs.Refusals.{refusal_by};
+ghost use Rattle.dsa_explain.specs.Done.{members_failed, status_of_fate, status_reason};
+ghost use Rattle.dsa_explain.specs.declared.done.DoneReason.TheVariants as done;
 ghost use Rattle.dsa_explain_lines.specs.Parts.{event_part, queue_keeping, start_keeping};
 ghost use Rattle.dsa_explain_lines.specs.Sentences.{check_sentence, fetched_words};
 ghost use Rattle.dsa_worked.specs.Lawful.{batch_three, member_of_three, note_of_three, that_waits, work_on_batch};
 ghost use Rattle.dsa_worked.specs.Setup.{no_op, row};
 ghost use Rattle.dsa_worked.specs.Uneven.{many_engines, many_queues, of_these, small_queue};
 ghost use Rattle.dsa_explain_rows.specs.After.{of_three_groups};
-ghost use Rattle.dsa_explain_rows.specs.Tables.{drain_three, two_groups, want_in_two_groups, unlike_want, FencesWaitFor, IsToldAlone};
+ghost use Rattle.dsa_explain_rows.specs.Tables.{batch_seven, drain_three, two_groups, want_in_two_groups, unlike_want, with_failures, FencesWaitFor, IsToldAlone};
 
 /// ENQCMD is answered Retry, and MOVDIR64B is dropped.
 pub fn refusals()
@@ -46,6 +48,22 @@ pub fn failures()
     ensures of_this { is_failed_in 3 (row 7 (Some 3) (Completed 3)) ≡ true }
     ensures of_another { is_failed_in 3 (row 7 (Some 2) (Completed 3)) ≡ false }
     ensures of_none { is_failed_in 3 (row 7 None (Completed 3)) ≡ false }
+{}
+
+/// The reason of each status, with the numbers of the entry, of its queue and of its batch.
+pub fn statuses()
+    ensures success { map (status_reason with_failures batch_seven) (0x01 ∷ 0x15 ∷ [])
+        ≡ None ∷ None ∷ [] }
+    ensures fault { status_reason with_failures batch_seven 0x03 ≡ Some done.PageFault }
+    ensures members { status_reason with_failures batch_seven 0x05
+        ≡ Some (done.MembersFailed 8 0x13 1) }
+    ensures operation { status_reason with_failures batch_seven 0x10
+        ≡ Some (done.NotSupported 0x01) }
+    ensures fence { status_reason with_failures batch_seven 0x11 ≡ Some done.FenceOutside }
+    ensures size { status_reason with_failures batch_seven 0x13 ≡ Some (done.SizeOutside 9 3 2) }
+    ensures count { status_reason with_failures batch_seven 0x14 ≡ Some (done.CountOutside 9 1 2) }
+    ensures none_failed { members_failed with_failures 5 ≡ done.MembersFailed 0 0 0 }
+    ensures unended { map status_of_fate (Aborted 4 ∷ Abandoned ∷ []) ≡ 0 ∷ 0 ∷ [] }
 {}
 
 /// A member that lacks read buffers is told of them, or that its engine is of no group.

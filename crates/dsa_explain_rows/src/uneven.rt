@@ -13,9 +13,10 @@ ghost use Rattle.dsa_engines.specs.Batch.{fetch_reason, fetch_reason_of};
 ghost use Rattle.dsa_engines.specs.Finish.{finish_reason};
 ghost use Rattle.dsa_buffers.specs.Buffers.{buffers_in_use, kept_from};
 ghost use Rattle.dsa_engines.specs.Engines.{buffers_at};
-ghost use Rattle.dsa_explain_lines.specs.Parts.{dispatch_part, keeping_part};
+ghost use Rattle.dsa_explain_lines.specs.Parts.{dispatch_part, keeping_part, start_part};
 
 /// Of many queues one engine is there, and of many engines the last five are in a group.
+#[tactic(auto, unfolding(dsa_scenario::specs::Worked::digits_on_literals))]
 pub fn engines()
     ensures one { seen_there (λ s. map (engine_reason s.work) (0 ∷ 1 ∷ [])) many_queues
         (take 8 engine_beyond_the_last)
@@ -32,6 +33,9 @@ pub fn engines()
     ensures no_second_fetches { seen_there (λ s. fetch_reason s.work 1) many_queues
         (take 8 engine_beyond_the_last)
         ≡ Some (Some fetch.NoEngine) }
+    ensures starts { seen_there (λ s. map (start_part s.work) (6 ∷ 7 ∷ [])) many_engines
+        (take 4 last_of_many_engines)
+        ≡ Some (codes ": no member waits on e6" ∷ codes ": the device has no e7" ∷ []) }
     ensures ends { seen_there
         (λ s. map (λ e. finish_reason s.work e (ticket 9 9)) (6 ∷ 7 ∷ [])) many_engines
         (take 4 last_of_many_engines)

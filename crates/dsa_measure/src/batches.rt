@@ -73,15 +73,20 @@ fn is_done<S: EntryStore>(device: &mut Device<S>, members: u32) -> bool {
     )
 }
 
-/// How many of so many batches, each of so many members, were done on a new device.
-pub fn run(alloc: Global, members: u32, count: u32) -> Result<u32> {
-    let mut device = make_device(alloc, &LONG_BATCHES)?;
-    set_up(&mut device);
+// The device is new.
+fn count_done<S: EntryStore>(device: &mut Device<S>, members: u32, count: u32) -> u32 {
+    set_up(device);
     let mut done = 0u32;
     for _ in 0..count {
-        if is_done(&mut device, members) {
+        if is_done(device, members) {
             done = done.saturating_add(1);
         }
     }
-    Ok(done)
+    done
+}
+
+/// How many of so many batches, each of so many members, were done on a new device.
+pub fn run(alloc: Global, members: u32, count: u32) -> Result<u32> {
+    let mut device = make_device(alloc, &LONG_BATCHES)?;
+    Ok(count_done(&mut device, members, count))
 }

@@ -155,27 +155,37 @@ fn finishes<S: EntryStore>(device: &mut Device<S>, drain: Ticket, count: u32) ->
     Seen { waits, done: 0 }
 }
 
-/// Makes so many steps of a new device that holds so many entries.
-pub fn run(alloc: Global, mode: Mode, held: u32, count: u32) -> Result<Seen> {
-    let mut device = make_device(alloc, &CAPS)?;
-    set_up(&mut device);
+// The device is new.
+fn measure<S: EntryStore>(
+    device: &mut Device<S>,
+    mode: Mode,
+    held: u32,
+    count: u32,
+) -> Result<Seen> {
+    set_up(device);
     if let Mode::FinishDrain = mode {
-        let drain = start_drain(&mut device, held)?;
-        return Ok(finishes(&mut device, drain, count));
+        let drain = start_drain(device, held)?;
+        return Ok(finishes(device, drain, count));
     }
     let command = match mode {
         Mode::Disable => Command::DisableWq(SECOND_QUEUE),
         _ => Command::DrainWq(SECOND_QUEUE),
     };
-    begin(&mut device, command, held)?;
+    begin(device, command, held)?;
     let done = match mode {
-        Mode::Waiting => rounds(&mut device, count),
-        Mode::Awaited => told(&device, count),
+        Mode::Waiting => rounds(device, count),
+        Mode::Awaited => told(device, count),
         _ => {
-            polls(&mut device, count);
+            polls(device, count);
             0
         }
     };
     let waits = device.poll() == PollAnswer::Active;
     Ok(Seen { waits, done })
+}
+
+/// Makes so many steps of a new device that holds so many entries.
+pub fn run(alloc: Global, mode: Mode, held: u32, count: u32) -> Result<Seen> {
+    let mut device = make_device(alloc, &CAPS)?;
+    measure(&mut device, mode, held, count)
 }

@@ -6,6 +6,8 @@ pub mod Names
 pub mod Plain
 pub mod Records
 pub mod StepObjects
+pub mod Streams
+pub mod StreamWrites
 pub mod Tickets
 pub mod Walks
 pub mod Whole

@@ -4,7 +4,7 @@ use Rattle.std.proofs.Common.{append_assoc, append-nil, filter_map, length-appen
 use Rattle.std.specs.Prelude.{slice_get, suc}
 use Rattle.dsa_regs.specs.declared.{Caps.{Caps}, Fault.{Fault}}
 use Rattle.dsa_book.specs.declared.{answer.Ticket.{Ticket}, event.Event.{Event}}
-use Rattle.dsa_book.specs.{Machine.{replay, stored_steps}}
+use Rattle.dsa_book.specs.{Machine.{stored_steps}}
 use Rattle.dsa_device.specs.{Running.{Running, running_at_first, IsReplay}, Runs.{IsRunOf}}
 use Rattle.dsa_scenario.specs.declared.{actions.Action.{Action}, run.Record.{Record}}
 use Rattle.dsa_scenario.specs.Run.{ticket_given_by, event_of, answered_by, steps_of_records, AreOf, Leads, IsTable}

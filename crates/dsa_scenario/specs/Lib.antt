@@ -8,4 +8,5 @@ pub mod Run
 pub mod Scenario
 pub mod Steps
 pub mod Watched
+pub mod Streams
 pub mod Worked

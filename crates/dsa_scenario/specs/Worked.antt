@@ -23,7 +23,7 @@ use Rattle.dsa_book.specs.declared.fate.{Fate.{Fate}, FateRow.{FateRow}}
 use Rattle.dsa_device.specs.Running.{Running, running_at_first}
 use Rattle.dsa_scenario.specs.declared.actions.Action.{Action, TheVariants.{Ask, Finish, Refuse}}
 use Rattle.dsa_scenario.specs.declared.run.Record.{Record, TheVariants.{Stepped, Refused}}
-use Rattle.dsa_scenario.specs.Fields.{whole_of}
+use Rattle.dsa_scenario.specs.{Fields.{whole_of}, Steps.{Visit, visits}}
 
 -- ---- JSON
 
@@ -309,3 +309,7 @@ abbrev pub lines_of_a_run : List ℕ
 lines_of_a_run =
     codes "written\nwritten\nended 0\nended 0\nrefused 13 BadCommand\n"
     ++ codes "accepted 0\ntaken 0 from 0\ndone 01\nfull\nfate 0 - completed 01\n"
+
+-- the steps of two polls
+abbrev pub two_polls : List Visit
+two_polls = visits smallest_caps 9 [] (polled ++ polled)

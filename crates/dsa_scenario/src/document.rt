@@ -3,7 +3,7 @@
 ghost use Rattle.std.specs.Prelude.{◌≡◌, ◌⊎◌, map, option_map, IfOk, IfErr, IfNone, IfSome, OnOk, MatchOption};
 ghost use Rattle.serde_json.specs.View.{view, items_view};
 ghost use Rattle.serde_json.specs.Errors.{IsMemory};
-ghost use Rattle.dsa_scenario.specs.Document.{head_of, AreSteps, IsBadAt, IsFaultOfHead, IsJson, IsNoJson};
+ghost use Rattle.dsa_scenario.specs.Document.{head_of, AreSteps, IsBadAt, IsFirstBad, IsFaultOfHead, IsJson, IsNoJson};
 ghost use Rattle.dsa_scenario.specs.Document.{IsOpenable, IsOpeningFault};
 
 use crate::actions::{parse_action, parse_caps};
@@ -85,6 +85,17 @@ fn opening_fault(caps: &Caps, capacity: u64) -> Option<ScenarioFault>
     }
 }
 
+/// Whether each item is a step object.
+pub fn check_steps(steps: &[Value]) -> Result<(), ScenarioFault>
+    ensures ok { OnOk result (AreSteps (map view steps.now)) }
+    ensures bad { IfErr result (IsFirstBad (map view steps.now)) }
+{
+    match first_bad(steps) {
+        Some(i) => Err(ScenarioFault::BadStep(i as u64)),
+        None => Ok(()),
+    }
+}
+
 /// Whether a device can be made as the head says.
 ///
 /// A step object that is none comes before a fault of the device, so all of them are read before
@@ -97,8 +108,6 @@ pub fn check_head(head: &Head<'_>) -> Result<(), ScenarioFault>
     let Some(fault) = opening_fault(&head.caps, head.capacity) else {
         return Ok(());
     };
-    match first_bad(head.steps) {
-        Some(i) => Err(ScenarioFault::BadStep(i as u64)),
-        None => Err(fault),
-    }
+    check_steps(head.steps)?;
+    Err(fault)
 }

@@ -39,8 +39,9 @@ ghost use Rattle.dsa_scenario.specs.Lines.{reply_text, record_text, row_text, li
 ghost use Rattle.dsa_scenario.specs.Run.{ticket_of_name, event_of, steps_of_records, AreLinesOf, AreOf};
 ghost use Rattle.dsa_scenario.specs.Scenario.{HasFault, IsCutShort, IsRenderingOf, IsTextCutShort, IsTextWritten, IsWholeDocument};
 ghost use Rattle.dsa_scenario.specs.Steps.{line_of_step, standing, visit, visits, AreLinesOfSteps, IsAtFirst, IsTextOfDocument, IsTextOfRun, IsWalkTo};
-ghost use Rattle.dsa_scenario.specs.Watched.{has_refused, is_closed, IsWrittenFor};
-ghost use Rattle.dsa_scenario.specs.Worked.{actions_of_a_run, actions_of_a_submission, caps_of_a_run, no_caps, poll_text, records_of_a_submission, running_with_fates, smallest_caps, stepless_text, lines_of_a_run, whole, read_number, fate, smallest_caps_text, no_caps_text, document_text, object_of, changed, texts, takes, refuses, needs_each, are_below, is_truth, is_text, some_caps, caps_in_fields, some_document, queue_step, queue_in_fields, group_step, fill_text, fill, enqcmd_step, movdir_step, dispatch_step, fetch_step, start_step, finish_step, command_step, poll_step, clear_step, record_ticket, stepped, accepted, record_of_a_fetch};
+ghost use Rattle.dsa_scenario.specs.Streams.{IsPageOfRest, BeginWith, HasWalked, IsPartWritten, IsTextAdded, IsTextCut, HasTakenLines, HasRefusedLines, AreFirstLines, AreLinesOfStart, IsTextBegun};
+ghost use Rattle.dsa_scenario.specs.Watched.{watched_contents, has_refused, is_closed, IsWrittenFor};
+ghost use Rattle.dsa_scenario.specs.Worked.{two_polls, actions_of_a_run, actions_of_a_submission, caps_of_a_run, no_caps, poll_text, records_of_a_submission, running_with_fates, smallest_caps, stepless_text, lines_of_a_run, whole, read_number, fate, smallest_caps_text, no_caps_text, document_text, object_of, changed, texts, takes, refuses, needs_each, are_below, is_truth, is_text, some_caps, caps_in_fields, some_document, queue_step, queue_in_fields, group_step, fill_text, fill, enqcmd_step, movdir_step, dispatch_step, fetch_step, start_step, finish_step, command_step, poll_step, clear_step, record_ticket, stepped, accepted, record_of_a_fetch};
 
 /// Numbers are whole, without sign, and below the limit of their field; the key stands in an
 /// object.
@@ -566,6 +567,9 @@ pub fn other_documents()
         (stepless_text (codes "1048577")) [] }
     ensures another_text { ¬ IsTextOfDocument (λ steps last text. text ≢ text)
         (stepless_text (codes "9")) [] }
+    ensures no_lines_begun { ¬ AreLinesOfStart line_of_step (codes "1") [] }
+    ensures not_opened_to_begin { ¬ AreLinesOfStart line_of_step
+        (stepless_text (codes "1048577")) [] }
 {}
 
 /// A document without a fault, and with the greatest capacity.
@@ -743,4 +747,64 @@ pub fn texts_written()
         (Some (codes "b")) (Some (codes "x")) (Some (codes "xab")) }
     ensures more_left_of_a_cut { ¬ IsTextCutShort (λ bytes fault text. bytes ≡ text)
         (Some (codes "ab")) (Some (codes "b")) (Some (codes "x")) (Some (codes "xa")) }
+{}
+
+/// Texts of which the first bytes or lines were written.
+#[tactic(auto, unfolding(serde_json::proofs::OnLiterals::serde_json_on_literals))]
+pub fn texts_begun()
+    ensures part { IsPartWritten (Some (codes "x")) (Some (codes "xa")) (codes "ab") }
+    ensures all { ¬ IsPartWritten (Some (codes "x")) (Some (codes "xab")) (codes "ab") }
+    ensures added { IsTextAdded (λ text. text ≡ codes "ab") (Some (codes "x"))
+        (Some (codes "xab")) }
+    ensures not_added { ¬ IsTextAdded (λ text. text ≡ codes "ab") (Some (codes "x"))
+        (Some (codes "xa")) }
+    ensures cut { IsTextCut (λ text. text ≡ codes "ab") (Some (codes "x")) (Some (codes "xa")) }
+    ensures not_cut { ¬ IsTextCut (λ text. text ≡ codes "ab") (Some (codes "x"))
+        (Some (codes "xab")) }
+    ensures lines { AreLinesOfStart line_of_step poll_text (codes "nothing\n") }
+    ensures no_line_yet { AreLinesOfStart line_of_step poll_text [] }
+    ensures begun { IsTextBegun AreLinesOfSteps line_of_step poll_text None [] }
+    ensures fault_told { ¬ IsTextBegun AreLinesOfSteps line_of_step poll_text (Some BadCaps) [] }
+{}
+
+/// Pages from which the first steps were taken, and their lines.
+pub fn steps_taken()
+    ensures rest { IsPageOfRest {Page = ℕ} (λ done. length done ≡ 1)
+        (λ steps page. page ≡ length steps) two_polls 1 }
+    ensures more_left { ¬ IsPageOfRest {Page = ℕ} (λ done. length done ≡ 1)
+        (λ steps page. page ≡ length steps) two_polls 2 }
+    ensures first { BeginWith (λ done. length done ≡ 1) two_polls }
+    ensures too_many { ¬ BeginWith (λ done. length done ≡ 3) two_polls }
+    ensures first_line { AreFirstLines (λ step. step.number ∷ []) two_polls
+        (running_at_first smallest_caps 9) (0 ∷ []) }
+    ensures second_line { ¬ AreFirstLines (λ step. step.number ∷ []) two_polls
+        (running_at_first smallest_caps 9) (1 ∷ []) }
+    ensures walked { HasWalked (λ steps. length steps ≡ 1) smallest_caps 9
+        (object_of poll_step ∷ whole 1 ∷ []) }
+    ensures walked_too_far { ¬ HasWalked (λ steps. length steps ≡ 1) smallest_caps 9
+        (whole 1 ∷ []) }
+{}
+
+/// Lines that a writer took, and lines that it refused.
+pub fn lines_taken()
+    ensures refusal_untold { (old : WatchedWriter (List ℕ)) (new : WatchedWriter (List ℕ))
+        → has_refused old ≡ false → has_refused new ≡ true
+        → ¬ HasTakenLines Some line_of_step old new [] }
+    ensures lines_left_out { (old : WatchedWriter (List ℕ)) (new : WatchedWriter (List ℕ))
+        → watched_contents Some old ≡ Some []
+        → watched_contents Some new ≡ Some (0 ∷ [])
+        → ¬ HasTakenLines Some (λ step. step.number ∷ []) old new two_polls }
+    ensures another_writer { (old : WatchedWriter (List ℕ)) (new : WatchedWriter (List ℕ))
+        → new.writer.ghost_name ≢ old.writer.ghost_name
+        → ¬ HasTakenLines Some line_of_step old new [] }
+    ensures nothing_refused { (old : WatchedWriter (List ℕ)) (new : WatchedWriter (List ℕ))
+        → has_refused new ≡ false
+        → ¬ HasRefusedLines Some line_of_step old new two_polls }
+    ensures another_refused { (old : WatchedWriter (List ℕ)) (new : WatchedWriter (List ℕ))
+        → new.writer.ghost_name ≢ old.writer.ghost_name
+        → ¬ HasRefusedLines Some line_of_step old new two_polls }
+    ensures all_taken { (old : WatchedWriter (List ℕ)) (new : WatchedWriter (List ℕ))
+        → watched_contents Some old ≡ Some []
+        → watched_contents Some new ≡ Some (0 ∷ 1 ∷ [])
+        → ¬ HasRefusedLines Some (λ step. step.number ∷ []) old new two_polls }
 {}

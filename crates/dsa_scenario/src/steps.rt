@@ -1,6 +1,6 @@
 //! What makes a text of a document's run, step by step, and the walk over the steps.
 
-ghost use Rattle.std.specs.Prelude.{◌≡◌, ◌⊎◌, ◌+◌, ◌++◌, [], ◌∷◌, ℕ, List, Result, None, Some, IfErr, IfOk, OnOk, length, map, string_bytes};
+ghost use Rattle.std.specs.Prelude.{◌≡◌, ◌≢◌, ◌⊎◌, ◌+◌, ◌++◌, [], ◌∷◌, true, ℕ, List, Result, None, Some, IfErr, IfOk, OnOk, length, map, string_bytes};
 ghost use Rattle.serde_json.specs.View.{view};
 ghost use Rattle.dsa_regs.specs.declared.{Caps.{Caps}, Fault.{Fault}};
 ghost use Rattle.dsa_book.specs.declared.event.Event.{Event};
@@ -8,6 +8,7 @@ ghost use Rattle.dsa_device.specs.Running.{Running};
 ghost use Rattle.dsa_scenario.specs.{declared.actions.Action.{Action}, Actions.{action_of}, Run.{answered_by}};
 ghost use Rattle.dsa_scenario.specs.Document.{IsFirstBad, IsFaultOf};
 ghost use Rattle.dsa_scenario.specs.Steps.{Visit, visit, IsWalkTo, IsTextOfDocument};
+ghost use Rattle.dsa_scenario.specs.Streams.{IsPageBehind, IsPageOfRest, BeginWith, HasWalked};
 
 use crate::actions::{Action, parse_action};
 use crate::document::{parse_head, parse_json};
@@ -15,6 +16,7 @@ use crate::faults::ScenarioFault;
 use crate::opening::{MakeStore, Run, open_run};
 use crate::rendering::{Rendered, Rendering};
 use crate::run::{Record, ask, event_for, note_ticket};
+use crate::sinks::{Kept, Sink};
 use dsa_book::Event;
 use dsa_cells::LinkedStore;
 use dsa_device::Device;
@@ -101,11 +103,11 @@ impl<S: EntryStore> Run<S> {
     ) -> Added
         ensures { OnOk result
             ((caps : Caps)
-            → (capacity : ℕ) → (done : List Action)
-            → IsWalkTo (D.is_page what.now) caps capacity done number self.old.device
-            self.old.tickets.items page.old
-            → IsWalkTo (D.is_page what.now) caps capacity (done ++ action ∷ []) (number + 1)
-            self.new.device self.new.tickets.items page.new) }
+            → (capacity : ℕ) → (done : List Action) → (taken : List Visit)
+            → IsWalkTo (IsPageBehind taken (D.is_page what.now)) caps capacity done number
+            self.old.device self.old.tickets.items page.old
+            → IsWalkTo (IsPageBehind taken (D.is_page what.now)) caps capacity
+            (done ++ action ∷ []) (number + 1) self.new.device self.new.tickets.items page.new) }
     {
         let asked = event_for(&self.tickets, action);
         let told = what.look(alloc, &self.device, &asked)?;
@@ -119,6 +121,53 @@ impl<S: EntryStore> Run<S> {
             device: &self.device,
         };
         what.add_step(page, &step)
+    }
+
+    /// Runs the step objects, each as soon as it is read, and adds their steps to the page. After
+    /// each the sink may take from the page what it has.
+    #[inline(always)]
+    pub fn walk_into<D: RenderSteps, K: Sink<D>>(
+        &mut self,
+        alloc: Global,
+        what: &D,
+        page: &mut D::Page,
+        sink: &mut K,
+        steps: &[Value],
+    ) -> Result<(), ScenarioFault>
+        ensures ok { OnOk result
+            ((actions : List Action)
+            × (map action_of (map view steps.now) ≡ map Some actions)
+            × ((caps : Caps)
+            → (capacity : ℕ) → (first : _)
+            → IsWalkTo (IsPageOfRest (K.has_taken what.now first sink.old) (D.is_page what.now))
+            caps capacity [] 0 self.old.device self.old.tickets.items page.old
+            → IsWalkTo (IsPageOfRest (K.has_taken what.now first sink.new) (D.is_page what.now))
+            caps capacity actions (length steps.now) self.new.device self.new.tickets.items
+            page.new)) }
+        ensures bad { IfErr result
+            (λ e. (e ≡ ScenarioFault.OutOfMemory)
+            ⊎ (e ≡ ScenarioFault.Write) × (K.may_refuse ≡ true)
+            ⊎ IsFirstBad (map view steps.now) e) }
+
+        // Where it stops, some of the steps were made, and the sink has taken from their page.
+        ensures stopped { IfErr result
+            (λ e. (caps : Caps)
+            → (capacity : ℕ) → (first : _)
+            → IsWalkTo (IsPageOfRest (K.has_taken what.now first sink.old) (D.is_page what.now))
+            caps capacity [] 0 self.old.device self.old.tickets.items page.old
+            → (e ≡ ScenarioFault.Write → HasWalked (K.has_stopped what.now first sink.new)
+            caps capacity (map view steps.now))
+            × (e ≢ ScenarioFault.Write → HasWalked
+            (BeginWith (K.has_taken what.now first sink.new)) caps capacity (map view steps.now))) }
+    {
+        for (i, step) in steps.iter().enumerate() {
+            match parse_action(step) {
+                Some(action) => self.step(alloc, what, page, i, action)?,
+                None => return Err(ScenarioFault::BadStep(i as u64)),
+            }
+            sink.take(what, page)?;
+        }
+        Ok(())
     }
 
     /// Runs the step objects, each as soon as it is read, and adds their steps to the page.
@@ -141,13 +190,7 @@ impl<S: EntryStore> Run<S> {
         ensures bad { IfErr result
             (λ e. (e ≡ ScenarioFault.OutOfMemory) ⊎ IsFirstBad (map view steps.now) e) }
     {
-        for (i, step) in steps.iter().enumerate() {
-            match parse_action(step) {
-                Some(action) => self.step(alloc, what, page, i, action)?,
-                None => return Err(ScenarioFault::BadStep(i as u64)),
-            }
-        }
-        Ok(())
+        self.walk_into(alloc, what, page, &mut Kept, steps)
     }
 }
 

@@ -3,11 +3,11 @@ use Rattle.std.specs.Prelude.{ℕ, ◌==◌, if◌then◌else◌, Bool, false, L
 use Rattle.std.specs.Prelude.{flat_map}
 use Rattle.std.specs.Option.{option_map}
 use Rattle.dsa_base.specs.Numbers.{numbers_below}
-use Rattle.dsa_regs.specs.declared.{Caps.{Caps}, Command.{Command}, QueueConfig.{QueueConfig}}
+use Rattle.dsa_regs.specs.declared.{Caps.{Caps}, Command.{Command}, QueueConfig.{QueueConfig}, GroupConfig.{GroupConfig}, Phase.{Phase}}
 use Rattle.dsa_regs.specs.Config.{queue_at, group_at}
-use Rattle.dsa_book.specs.{State.{State, occupancy}, Work.{used, in_progress, members}}
+use Rattle.dsa_book.specs.{State.{State, occupancy, phase_at}, Work.{used, in_progress, members}}
 use Rattle.dsa_device.specs.Reads.{awaited}
-use Rattle.dsa_event_text.specs.Text.{command_with_operand}
+use Rattle.dsa_event_text.specs.Text.{command_with_operand, phase_word}
 use Rattle.dsa_trace.specs.declared.form.{Trace.{Trace, TheVariants.{Table, Json}}, Part.{Part}, Items.{Items}}
 use Rattle.dsa_trace.specs.declared.form.Items.TheVariants.{Queues, Engines, Groups}
 use Rattle.dsa_trace.specs.declared.form.Part.TheVariants as part
@@ -27,11 +27,24 @@ abbrev pub threshold_text : Trace → QueueConfig → List ℕ
 threshold_text Table config = if config.dedicated then [] else marked Table part.Threshold config.threshold
 threshold_text Json config = marked Json part.Threshold config.threshold
 
--- how many entries wait in a queue, against the limits of its portals
-abbrev pub queue_text : Trace → ℕ → ℕ → QueueConfig → List ℕ
-queue_text form queue waiting config = if is_left_out form config then [] else
+-- a phase behind its mark; the table shows none
+abbrev pub phase_text : Trace → Part → Phase → List ℕ
+phase_text Table part phase = []
+phase_text Json part phase = mark Json part ++ phase_word phase
+
+-- the limits of a queue's portals
+abbrev pub limits_text : Trace → QueueConfig → List ℕ
+limits_text form config = threshold_text form config ++ marked form part.Size config.size
+
+-- the phase of a queue, and the end of its column
+abbrev pub phase_end : Trace → Phase → List ℕ
+phase_end form phase = phase_text form part.QueuePhase phase ++ mark form part.PhaseEnd ++ mark form part.ColumnEnd
+
+-- how many entries wait in a queue, against the limits of its portals, and its phase
+abbrev pub queue_text : Trace → ℕ → ℕ → QueueConfig → Phase → List ℕ
+queue_text form queue waiting config phase = if is_left_out form config then [] else
     (comma form queue ++ marked form part.Queue queue ++ marked form part.Occupancy waiting
-    ++ threshold_text form config ++ marked form part.Size config.size ++ mark form part.ColumnEnd)
+    ++ limits_text form config ++ phase_end form phase)
 
 -- how many slots of an engine are in use, of how many, and how many members of its batch have not ended
 abbrev pub engine_text : Trace → ℕ → ℕ → ℕ → ℕ → List ℕ
@@ -39,11 +52,16 @@ engine_text form engine taken slots left =
     comma form engine ++ marked form part.Engine engine ++ marked form part.InProgress taken
     ++ marked form part.Slots slots ++ marked form part.Members left ++ mark form part.ColumnEnd
 
--- how many read buffers a group has in use, of how many allowed ones
-abbrev pub group_text : Trace → ℕ → ℕ → ℕ → List ℕ
-group_text form group taken allowed =
-    comma form group ++ marked form part.Group group ++ marked form part.Used taken ++ marked form part.Allowed allowed
-    ++ mark form part.ColumnEnd
+-- how many read buffers are reserved for a group; the table does not show it
+abbrev pub reserved_text : Trace → ℕ → List ℕ
+reserved_text Table reserved = []
+reserved_text Json reserved = marked Json part.Reserved reserved
+
+-- how many read buffers a group has in use, of how many allowed ones, and how many are reserved for it
+abbrev pub group_text : Trace → ℕ → ℕ → GroupConfig → List ℕ
+group_text form group taken config =
+    comma form group ++ marked form part.Group group ++ marked form part.Used taken
+    ++ marked form part.Allowed config.allowed ++ reserved_text form config.reserved ++ mark form part.ColumnEnd
 
 -- the command that is not over, and how many entries it waits for
 abbrev pub command_text : Trace → Option Command → Option ℕ → List ℕ
@@ -61,10 +79,11 @@ item_count caps Groups = caps.groups
 
 -- the text of the queue, the engine or the group of this number
 abbrev pub item_text : Trace → Caps → State → Items → ℕ → List ℕ
-item_text form caps s Queues q = queue_text form q (occupancy s.work.content q) (queue_at s.work.setup.configs q)
+item_text form caps s Queues q =
+    queue_text form q (occupancy s.work.content q) (queue_at s.work.setup.configs q) (phase_at s.work.setup q)
 item_text form caps s Engines e =
     engine_text form e (length (in_progress s.work e)) caps.slots (length (members s.work e))
-item_text form caps s Groups g = group_text form g (used s.work g) (group_at s.work.setup.groups g).allowed
+item_text form caps s Groups g = group_text form g (used s.work g) (group_at s.work.setup.groups g)
 
 -- the mark of an array, and all its items
 abbrev pub items_text : Trace → Caps → State → Items → List ℕ
@@ -74,8 +93,9 @@ items_text form caps s kind =
 abbrev pub command_column : Trace → State → List ℕ
 command_column form s = command_text form (option_map (λ active. active.command) s.active) (awaited s)
 
--- the queues, engines and groups that the device has, and the active command
+-- the phase of the device, the queues, engines and groups that it has, and the active command
 abbrev pub columns : Trace → Caps → State → List ℕ
 columns form caps s =
-    items_text form caps s Queues ++ items_text form caps s Engines ++ items_text form caps s Groups
+    phase_text form part.DevicePhase s.work.setup.device
+    ++ items_text form caps s Queues ++ items_text form caps s Engines ++ items_text form caps s Groups
     ++ command_column form s

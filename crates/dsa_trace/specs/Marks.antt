@@ -6,12 +6,14 @@ use Rattle.dsa_trace.specs.declared.form.Part.TheVariants.{Step, Event, Answer, 
 use Rattle.dsa_trace.specs.declared.form.Part.TheVariants.{Active, Awaited, CommandEnd, LineEnd, Queue, Occupancy}
 use Rattle.dsa_trace.specs.declared.form.Part.TheVariants.{Threshold, Size, Engine, InProgress, Slots, Members, Group}
 use Rattle.dsa_trace.specs.declared.form.Part.TheVariants.{Used, Allowed, ColumnEnd, Held, InList, HeldEnd}
+use Rattle.dsa_trace.specs.declared.form.Part.TheVariants.{DevicePhase, QueuePhase, PhaseEnd, Reserved}
 
 -- before a part of a row of the table, and before the same part of a JSON object
 abbrev pub marks : Part → List ℕ × List ℕ
 marks Step = ([], codes "{\"step\":")
 marks Event = (codes " ", codes ",\"event\":\"")
 marks Answer = (codes " -> ", codes "\",\"answer\":\"")
+marks DevicePhase = ([], codes "\",\"phase\":\"")
 marks (Items Queues) = (codes " |", codes "\",\"queues\":[")
 marks (Items Engines) = (codes " |", codes "],\"engines\":[")
 marks (Items Groups) = (codes " |", codes "],\"groups\":[")
@@ -24,6 +26,8 @@ marks Queue = (codes " q", codes "{\"queue\":")
 marks Occupancy = (codes " ", codes ",\"occupancy\":")
 marks Threshold = (codes "/", codes ",\"threshold\":")
 marks Size = (codes "/", codes ",\"size\":")
+marks QueuePhase = ([], codes ",\"phase\":\"")
+marks PhaseEnd = ([], codes "\"")
 marks Engine = (codes " e", codes "{\"engine\":")
 marks InProgress = (codes " ", codes ",\"in_progress\":")
 marks Slots = (codes "/", codes ",\"slots\":")
@@ -31,6 +35,7 @@ marks Members = (codes " m", codes ",\"members\":")
 marks Group = (codes " g", codes "{\"group\":")
 marks Used = (codes " ", codes ",\"used\":")
 marks Allowed = (codes "/", codes ",\"allowed\":")
+marks Reserved = ([], codes ",\"reserved\":")
 marks ColumnEnd = ([], codes "}")
 marks Held = (codes "held ", codes "{\"held\":")
 marks InList = (codes " in ", codes ",\"list\":\"")

@@ -2,12 +2,12 @@
 
 ghost use Rattle.std.specs.Prelude.{◌≡◌, ◌<◌};
 ghost use Rattle.dsa_event_text.specs.Added.{Adds};
-ghost use Rattle.dsa_trace.specs.Columns.{columns, command_text, engine_text, group_text, is_left_out, item_count, item_text, items_text, queue_text, threshold_text};
+ghost use Rattle.dsa_trace.specs.Columns.{columns, command_text, engine_text, group_text, is_left_out, item_count, item_text, items_text, limits_text, phase_end, phase_text, queue_text, reserved_text, threshold_text};
 
 use crate::form::{Items, Part, Trace, add_comma, add_mark, add_marked};
 use dsa_device::Device;
-use dsa_event_text::{Added, add_command};
-use dsa_regs::{Caps, Command, QueueConfig};
+use dsa_event_text::{Added, add_command, phase_word};
+use dsa_regs::{Caps, Command, GroupConfig, Phase, QueueConfig};
 use dsa_store::EntryStore;
 
 fn is_left_out(form: Trace, config: &QueueConfig) -> bool
@@ -28,14 +28,44 @@ fn add_threshold(text: &mut String, form: Trace, config: &QueueConfig) -> Added
     }
 }
 
+fn add_limits(text: &mut String, form: Trace, config: &QueueConfig) -> Added
+    ensures { Adds result text.old text.new (limits_text form config.now) }
+{
+    add_threshold(text, form, config)?;
+    add_marked(text, form, Part::Size, u32::from(config.size))
+}
+
+// A phase behind its mark.
+fn add_phase(text: &mut String, form: Trace, part: Part, phase: Phase) -> Added
+    ensures { Adds result text.old text.new (phase_text form part phase) }
+{
+    match form {
+        Trace::Table => Ok(()),
+        Trace::Json => {
+            add_mark(text, form, part)?;
+            text.push_str(phase_word(phase))
+        }
+    }
+}
+
+// The phase of a queue, and the end of its column.
+fn add_phase_end(text: &mut String, form: Trace, phase: Phase) -> Added
+    ensures { Adds result text.old text.new (phase_end form phase) }
+{
+    add_phase(text, form, Part::QueuePhase, phase)?;
+    add_mark(text, form, Part::PhaseEnd)?;
+    add_mark(text, form, Part::ColumnEnd)
+}
+
 fn add_queue(
     text: &mut String,
     form: Trace,
     queue: u16,
     waiting: u16,
     config: &QueueConfig,
+    phase: Phase,
 ) -> Added
-    ensures { Adds result text.old text.new (queue_text form queue waiting config.now) }
+    ensures { Adds result text.old text.new (queue_text form queue waiting config.now phase) }
 {
     if is_left_out(form, config) {
         return Ok(());
@@ -43,9 +73,8 @@ fn add_queue(
     add_comma(text, form, queue)?;
     add_marked(text, form, Part::Queue, u32::from(queue))?;
     add_marked(text, form, Part::Occupancy, u32::from(waiting))?;
-    add_threshold(text, form, config)?;
-    add_marked(text, form, Part::Size, u32::from(config.size))?;
-    add_mark(text, form, Part::ColumnEnd)
+    add_limits(text, form, config)?;
+    add_phase_end(text, form, phase)
 }
 
 fn add_engine(
@@ -66,13 +95,23 @@ fn add_engine(
     add_mark(text, form, Part::ColumnEnd)
 }
 
-fn add_group(text: &mut String, form: Trace, group: u16, taken: u16, allowed: u16) -> Added
-    ensures { Adds result text.old text.new (group_text form group taken allowed) }
+fn add_reserved(text: &mut String, form: Trace, reserved: u16) -> Added
+    ensures { Adds result text.old text.new (reserved_text form reserved) }
+{
+    match form {
+        Trace::Table => Ok(()),
+        Trace::Json => add_marked(text, form, Part::Reserved, u32::from(reserved)),
+    }
+}
+
+fn add_group(text: &mut String, form: Trace, group: u16, taken: u16, config: &GroupConfig) -> Added
+    ensures { Adds result text.old text.new (group_text form group taken config.now) }
 {
     add_comma(text, form, group)?;
     add_marked(text, form, Part::Group, u32::from(group))?;
     add_marked(text, form, Part::Used, u32::from(taken))?;
-    add_marked(text, form, Part::Allowed, u32::from(allowed))?;
+    add_marked(text, form, Part::Allowed, u32::from(config.allowed))?;
+    add_reserved(text, form, config.reserved)?;
     add_mark(text, form, Part::ColumnEnd)
 }
 
@@ -108,8 +147,14 @@ fn add_item<S: EntryStore>(
         (item_text form device.now.caps device.now.state items place) }
 {
     match items {
-        Items::Queues => match (device.occupancy(place), device.queue_config(place)) {
-            (Some(waiting), Some(config)) => add_queue(text, form, place, waiting, &config),
+        Items::Queues => match (
+            device.occupancy(place),
+            device.queue_config(place),
+            device.queue_phase(place),
+        ) {
+            (Some(waiting), Some(config), Some(phase)) => {
+                add_queue(text, form, place, waiting, &config, phase)
+            }
             _ => unreachable!(),
         },
         Items::Engines => match (device.in_progress_count(place), device.member_count(place)) {
@@ -119,7 +164,7 @@ fn add_item<S: EntryStore>(
             _ => unreachable!(),
         },
         Items::Groups => match (device.used(place), device.group_config(place)) {
-            (Some(taken), Some(config)) => add_group(text, form, place, taken, config.allowed),
+            (Some(taken), Some(config)) => add_group(text, form, place, taken, &config),
             _ => unreachable!(),
         },
     }
@@ -155,6 +200,7 @@ fn add_items<S: EntryStore>(
 pub fn add_columns<S: EntryStore>(text: &mut String, form: Trace, device: &Device<S>) -> Added
     ensures { Adds result text.old text.new (columns form device.now.caps device.now.state) }
 {
+    add_phase(text, form, Part::DevicePhase, device.phase())?;
     add_items(text, form, device, Items::Queues)?;
     add_items(text, form, device, Items::Engines)?;
     add_items(text, form, device, Items::Groups)?;

@@ -1,16 +1,22 @@
-//! A document in, the trace of its run out.
+//! A document in, the trace of its run out, line by line.
 
-ghost use Rattle.std.specs.Prelude.{◌≡◌, [], None, flat_map, string_bytes};
+ghost use Rattle.std.specs.Prelude.{◌≡◌, [], flat_map, string_bytes};
+ghost use Rattle.dsa_scenario.proofs.StreamWrites.{lines_before};
+ghost use Rattle.dsa_trace.specs.Held.{held_lines};
 ghost use Rattle.dsa_trace.specs.Lines.{trace_line_of_step};
-ghost use Rattle.dsa_trace.specs.Run.{IsTrace, IsTraceOf};
+ghost use Rattle.dsa_trace.specs.Run.{IsTraceOf};
 
 use crate::form::Trace;
 use crate::held::add_held;
 use crate::lines::add_step;
 use dsa_device::Device;
-use dsa_scenario::{Added, Asked, MadeText, Render, RenderSteps, Rendered, StepMade, render_steps};
+use dsa_scenario::{
+    Added, Asked, MadeText, RenderSteps, ScenarioFault, StepMade, StreamSteps, WatchedWriter,
+    write_piece,
+};
 use dsa_store::EntryStore;
 use std::alloc::Global;
+use std::io::Write;
 
 impl RenderSteps for Trace {
     type Page = String;
@@ -42,10 +48,18 @@ impl RenderSteps for Trace {
     }
 }
 
-impl Render for Trace {
-    ghost is_rendering = { λ form bytes fault text. (fault ≡ None) × IsTrace form bytes text };
+impl StreamSteps for Trace {
+    ghost line = { λ form step. trace_line_of_step form step };
 
-    fn render(&self, alloc: Global, bytes: &[u8]) -> Rendered {
-        render_steps(alloc, self, bytes)
+    fn write_out<W: Write>(
+        &self,
+        page: &mut String,
+        writer: &mut WatchedWriter<'_, W>,
+    ) -> Result<(), ScenarioFault> {
+        write_piece(page, writer)
     }
+
+    ghost continues = { λ form done rest last text is.
+        lines_before (trace_line_of_step form) done rest text
+        (held_lines form last.caps last.state) is };
 }

@@ -3,6 +3,7 @@ use Rattle.dsa_book.specs.declared.answer.Reply.TheVariants as reply
 use Rattle.dsa_book.specs.declared.event.Event.TheVariants as event
 use Rattle.std.specs.Prelude.{ℕ, ◌*◌, Bool, true, false, [], ◌∷◌, Option, Some, None}
 use Rattle.dsa_regs.specs.declared.{Caps.{Caps}, Command.TheVariants.{DrainPasid}, QueueConfig.{QueueConfig}}
+use Rattle.dsa_regs.specs.declared.Phase.TheVariants.{Off, On, Stopping}
 use Rattle.dsa_regs.specs.{Config.{zero_queue, zero_group}, Worked.{caps}}
 use Rattle.dsa_store.specs.Content.{HeldEntry}
 use Rattle.dsa_book.specs.{declared.answer.DispatchAnswer.TheVariants.{Taken}, State.{opening}}
@@ -40,6 +41,8 @@ device_of_a_trace =
       state = record {
         work = record work {
           setup = record work.setup {
+            device = On;
+            phases = Off ∷ On ∷ Stopping ∷ [];
             configs = queue_of_a_trace 0 7 false ∷ queue_of_a_trace 9 8 true ∷ queue_of_a_trace 12 5 false ∷ [];
             groups =
                 record zero_group { engines = 2; allowed = 11 } ∷ record zero_group { engines = 1; allowed = 13 }

@@ -19,14 +19,18 @@ pub fn of_steps()
         ≡ codes "12 dispatch e1 -> taken 33 from 2 | q1 2/9 q2 1/5/12 | e0 1/6 m0 e1 2/6 m3"
         ++ codes " | g0 6/11 g1 1/13 g2 0/0 g3 0/4 | drain-pasid 7 awaits 5\n" }
     ensures json { trace_line_of_step Json step_of_a_trace
-        ≡ codes "{\"step\":12,\"event\":\"dispatch e1\",\"answer\":\"taken 33 from 2\",\"queues\":["
-        ++ codes "{\"queue\":0,\"occupancy\":0,\"threshold\":7,\"size\":0},"
-        ++ codes "{\"queue\":1,\"occupancy\":2,\"threshold\":8,\"size\":9},"
-        ++ codes "{\"queue\":2,\"occupancy\":1,\"threshold\":5,\"size\":12}],\"engines\":["
+        ≡ codes "{\"step\":12,\"event\":\"dispatch e1\",\"answer\":\"taken 33 from 2\","
+        ++ codes "\"phase\":\"on\",\"queues\":["
+        ++ codes "{\"queue\":0,\"occupancy\":0,\"threshold\":7,\"size\":0,\"phase\":\"off\"},"
+        ++ codes "{\"queue\":1,\"occupancy\":2,\"threshold\":8,\"size\":9,\"phase\":\"on\"},"
+        ++ codes "{\"queue\":2,\"occupancy\":1,\"threshold\":5,\"size\":12,"
+        ++ codes "\"phase\":\"stopping\"}],\"engines\":["
         ++ codes "{\"engine\":0,\"in_progress\":1,\"slots\":6,\"members\":0},"
         ++ codes "{\"engine\":1,\"in_progress\":2,\"slots\":6,\"members\":3}],\"groups\":["
-        ++ codes "{\"group\":0,\"used\":6,\"allowed\":11},{\"group\":1,\"used\":1,\"allowed\":13},"
-        ++ codes "{\"group\":2,\"used\":0,\"allowed\":0},{\"group\":3,\"used\":0,\"allowed\":4}],"
+        ++ codes "{\"group\":0,\"used\":6,\"allowed\":11,\"reserved\":0},"
+        ++ codes "{\"group\":1,\"used\":1,\"allowed\":13,\"reserved\":0},"
+        ++ codes "{\"group\":2,\"used\":0,\"allowed\":0,\"reserved\":0},"
+        ++ codes "{\"group\":3,\"used\":0,\"allowed\":4,\"reserved\":3}],"
         ++ codes "\"active\":{\"command\":\"drain-pasid 7\",\"awaited\":5}}\n" }
     ensures word { step_line Table smallest_caps 9 (Refused BadCommand)
         (running_at_first smallest_caps 4).state
@@ -34,9 +38,11 @@ pub fn of_steps()
     ensures word_as_json { step_line Json smallest_caps 9 (Refused BadCommand)
         (running_at_first smallest_caps 4).state
         ≡ codes "{\"step\":9,\"event\":\"command\",\"answer\":\"refused 13 BadCommand\","
-        ++ codes "\"queues\":[{\"queue\":0,\"occupancy\":0,\"threshold\":0,\"size\":0}],"
+        ++ codes "\"phase\":\"off\",\"queues\":["
+        ++ codes "{\"queue\":0,\"occupancy\":0,\"threshold\":0,\"size\":0,\"phase\":\"off\"}],"
         ++ codes "\"engines\":[{\"engine\":0,\"in_progress\":0,\"slots\":1,\"members\":0}],"
-        ++ codes "\"groups\":[{\"group\":0,\"used\":0,\"allowed\":0}],\"active\":null}\n" }
+        ++ codes "\"groups\":[{\"group\":0,\"used\":0,\"allowed\":0,\"reserved\":0}],"
+        ++ codes "\"active\":null}\n" }
 {}
 
 /// A line for each entry that is held: in the queues, on the engines, and in their batches.

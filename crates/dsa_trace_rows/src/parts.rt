@@ -5,7 +5,10 @@ ghost use Rattle.dsa_regs.specs.declared.Command.TheVariants.{DrainPasid};
 ghost use Rattle.dsa_regs.specs.declared.layout.ListUse.TheVariants.{Members};
 ghost use Rattle.dsa_trace.specs.declared.form.Trace.TheVariants.{Table, Json};
 ghost use Rattle.dsa_trace.specs.declared.form.Items.TheVariants.{Queues, Engines, Groups};
-ghost use Rattle.dsa_trace.specs.Columns.{command_text, engine_text, group_text, item_count, queue_text};
+ghost use Rattle.dsa_trace.specs.Columns.{command_text, engine_text, group_text, item_count, phase_text, queue_text};
+ghost use Rattle.dsa_trace.specs.declared.form.Part.TheVariants.{DevicePhase};
+ghost use Rattle.dsa_regs.specs.declared.Phase.TheVariants.{Off, On, Stopping};
+ghost use Rattle.dsa_regs.specs.Worked.{first_group};
 ghost use Rattle.dsa_trace.specs.Held.{held_line};
 ghost use Rattle.dsa_trace_rows.specs.Worked.{caps_of_a_trace, queue_of_a_trace, traced_entry};
 
@@ -13,13 +16,15 @@ ghost use Rattle.dsa_trace_rows.specs.Worked.{caps_of_a_trace, queue_of_a_trace,
 /// all, and a comma before it where it is not the first.
 #[tactic(auto, unfolding(dsa_scenario::specs::Worked::digits_on_literals))]
 pub fn queues()
-    ensures left_out { queue_text Table 3 2 (queue_of_a_trace 0 7 false) ≡ [] }
-    ensures dedicated { queue_text Table 3 2 (queue_of_a_trace 9 8 true) ≡ codes " q3 2/9" }
-    ensures shared { queue_text Table 3 2 (queue_of_a_trace 9 8 false) ≡ codes " q3 2/8/9" }
-    ensures no_size { queue_text Json 3 2 (queue_of_a_trace 0 7 false)
-        ≡ codes ",{\"queue\":3,\"occupancy\":2,\"threshold\":7,\"size\":0}" }
-    ensures first { queue_text Json 0 1 (queue_of_a_trace 9 8 true)
-        ≡ codes "{\"queue\":0,\"occupancy\":1,\"threshold\":8,\"size\":9}" }
+    ensures left_out { queue_text Table 3 2 (queue_of_a_trace 0 7 false) On ≡ [] }
+    ensures dedicated { queue_text Table 3 2 (queue_of_a_trace 9 8 true) On
+        ≡ codes " q3 2/9" }
+    ensures shared { queue_text Table 3 2 (queue_of_a_trace 9 8 false) Off
+        ≡ codes " q3 2/8/9" }
+    ensures no_size { queue_text Json 3 2 (queue_of_a_trace 0 7 false) Off
+        ≡ codes ",{\"queue\":3,\"occupancy\":2,\"threshold\":7,\"size\":0,\"phase\":\"off\"}" }
+    ensures first { queue_text Json 0 1 (queue_of_a_trace 9 8 true) Stopping
+        ≡ codes "{\"queue\":0,\"occupancy\":1,\"threshold\":8,\"size\":9,\"phase\":\"stopping\"}" }
 {}
 
 /// An engine and a group.
@@ -30,9 +35,16 @@ pub fn engines_and_groups()
     ensures engine { engine_text Table 3 4 16 12 ≡ codes " e3 4/16 m12" }
     ensures engine_as_json { engine_text Json 3 4 16 12
         ≡ codes ",{\"engine\":3,\"in_progress\":4,\"slots\":16,\"members\":12}" }
-    ensures group { group_text Table 3 10 24 ≡ codes " g3 10/24" }
-    ensures group_as_json { group_text Json 3 10 24
-        ≡ codes ",{\"group\":3,\"used\":10,\"allowed\":24}" }
+    ensures group { group_text Table 3 10 (record first_group { reserved = 7; allowed = 24 })
+        ≡ codes " g3 10/24" }
+    ensures group_as_json { group_text Json 3 10 (record first_group { reserved = 7; allowed = 24 })
+        ≡ codes ",{\"group\":3,\"used\":10,\"allowed\":24,\"reserved\":7}" }
+{}
+
+/// The phase of the device, which the table leaves out.
+pub fn phases()
+    ensures table { phase_text Table DevicePhase Stopping ≡ [] }
+    ensures json { phase_text Json DevicePhase Stopping ≡ codes "\",\"phase\":\"stopping" }
 {}
 
 /// The active command, where there is one and it is known how many entries it waits for.

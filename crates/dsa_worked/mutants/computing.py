@@ -1,5 +1,6 @@
 """Computes definitions, so that a mutant is tried at once. What it says is a guess: the checker decides."""
 
+import json
 import os
 import re
 import sys
@@ -78,6 +79,24 @@ def in_digits(base, upper, n):
         n //= base
         if not n:
             return [ord(it) for it in found]
+
+
+def chars_of(xs):
+    """The characters of a text; of other bytes no row speaks."""
+    try:
+        return [ord(it) for it in bytes(xs).decode()]
+    except ValueError as fault:
+        raise Stuck("no text") from fault
+
+
+def units_of(c):
+    """The units of a character in UTF-16."""
+    return [c] if c < 0x10000 else [0xd800 + (c - 0x10000) // 0x400, 0xdc00 + (c - 0x10000) % 0x400]
+
+
+def in_json(x):
+    """What stands in a JSON text for a byte."""
+    return list(json.dumps(chr(x), ensure_ascii=False)[1:-1].encode("latin-1"))
 
 
 def fold(f, a, xs):
@@ -201,6 +220,9 @@ LIBRARY = {
     "option_and_then": (2, lambda f, x: f(x.arguments[0]) if x.name == "Some" else NONE),
     "ok_or": (2, lambda x, e: Made("Ok", x.arguments) if x.name == "Some" else Made("Err", (e,))),
     "unwrap_or": (2, chosen), "codes": (1, lambda x: x), "suc": (1, lambda n: n + 1), "bit_at": (2, lambda n, i: n >> i & 1),
+    "is_in_range": (3, lambda low, high, c: low <= c <= high), "hex_digit_at": (2, lambda place, n: in_digits(16, False, n // place % 16)[0]),
+    "chars": (1, chars_of), "encode_utf16": (1, units_of), "escape_byte": (1, in_json),
+    "encode_utf8_all": (1, lambda cs: list("".join(map(chr, cs)).encode())),
     "decimal": (1, lambda n: in_digits(10, False, n)), "digits": (3, in_digits),
     "little_number": (2, little), "little_bytes": (2, lambda n, x: [x >> (8 * i) & 255 for i in range(n)]),
     "format_spec": (5, lambda fill, align, flags, width, precision: (fill, flags, width)), "padded_integral": (4, padded),
@@ -247,7 +269,8 @@ MADE = {
 }
 # What stands in a record and is never computed: proofs, and the place of a vector in memory.
 UNSEEN = {"refl", "omega", "lit≤", "null_ptr"}
-VALUES = {"true": True, "false": False, "[]": [], "zero": 0, "tt": None, "⊤": True, "⊥": False, "Unit": True}
+VALUES = {"true": True, "false": False, "[]": [], "zero": 0, "tt": None, "⊤": True, "⊥": False, "Unit": True,
+          "quote": 34, "backslash": 92}
 # As many numbers are tried where something is said of all.
 MANY = 70
 
@@ -572,7 +595,7 @@ class Writer:
 
     def of_text(self, node, local):
         text = node.value[1:-1].encode().decode("unicode_escape") if "\\" in node.value else node.value[1:-1]
-        return repr(list(text.encode("utf-8")))
+        return repr([ord(it) for it in text])
 
     def of_brackets(self, node, local):
         return self.term(node.parts[0], local)

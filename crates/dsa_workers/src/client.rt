@@ -79,6 +79,7 @@ impl<S: EntryStore, L: Sharing, G: Gate> Run<'_, S, L, G> {
     {
         lane.stint = self.submit_all(rt, worker, script, &mut lane.seat);
         self.gate.pass(worker, lane.stint.turns);
+        self.gate.leave(worker);
     }
 }
 

@@ -86,6 +86,7 @@ impl<S: EntryStore, L: Sharing, G: Gate> Run<'_, S, L, G> {
     {
         lane.stint = self.serve(rt, worker, script, &mut lane.tickets, &mut lane.seat);
         self.gate.pass(worker, lane.stint.turns);
+        self.gate.leave(worker);
     }
 }
 

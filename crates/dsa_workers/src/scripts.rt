@@ -9,9 +9,11 @@ use std::alloc::{Allocator, Global};
 use thiserror::Error;
 
 /// Each worker passes it before each of its turns, counted from 0, and once more at its end, with
-/// the number of turns that it has had.
+/// the number of turns that it has had. Then it leaves, and does not come again.
 pub trait Gate {
     fn pass(&self, worker: usize, turn: u32);
+
+    fn leave(&self, _worker: usize) {}
 }
 
 /// A submission: the 64 bytes of a descriptor that are written to a portal of a queue.

@@ -5,23 +5,31 @@ use Rattle.std.proofs.lemmas.Result.{IfOk-weaker}
 use Rattle.serde_json.specs.View.{view}
 use Rattle.serde_json.proofs.Nesting.{depth-read}
 use Rattle.dsa_check.specs.{Findings.{IsFounded, AreFounded}, Judgement.{faults_told, faults_of_value, IsJudged}}
-use Rattle.dsa_check.proofs.{Firsts.{judged}, Told.{founded_as}}
+use Rattle.dsa_check.proofs.{Firsts.{judged}, Told.{founded_as}, Warned.{warned_ok}}
 
-pub judge_value-requires : goal.judge_value-requires
-judge_value-requires c = depth-read c.args.bytes.now (view c.in-Ok.document) c.in-Ok.ensures.ok.value
+pub judge_json-requires : goal.judge_json-requires
+judge_json-requires c = record {
+  shallow = depth-read c.args.bytes.now (view c.in-Ok.document) c.in-Ok.ensures.ok.value;
+  text = c.in-Ok.ensures.ok.utf8;
+}
 
 pub returns-in-Ok-clause-first : goal.returns-in-Ok-clause-first
 returns-in-Ok-clause-first c =
     let bytes = c.args.bytes.now in
     let document = view c.in-Ok.document in
-    IfOk-weaker c.judge_value.result (λ findings. faults_told findings.items ≡ faults_of_value document)
-    (λ findings. IsJudged bytes (faults_told findings.items))
-    (λ findings told. rw told (judged bytes document c.in-Ok.ensures.ok)) c.judge_value.ensures.faults
+    IfOk-weaker c.judge_json.result (λ told. faults_told told.faults.items ≡ faults_of_value document)
+    (λ told. IsJudged bytes (faults_told told.faults.items))
+    (λ told is. rw is (judged bytes document c.in-Ok.ensures.ok)) c.judge_json.ensures.faults
 
 pub returns-in-Ok-clause-told : goal.returns-in-Ok-clause-told
 returns-in-Ok-clause-told c =
     let bytes = c.args.bytes.now in
     let document = view c.in-Ok.document in
-    IfOk-weaker c.judge_value.result (λ findings. AllByRecursion (IsFounded bytes document) findings.items)
-    (λ findings. AreFounded bytes findings.items)
-    (λ findings h. founded_as bytes document c.in-Ok.ensures.ok findings.items h) c.judge_value.ensures.told
+    IfOk-weaker c.judge_json.result (λ told. AllByRecursion (IsFounded bytes document) told.faults.items)
+    (λ told. AreFounded bytes told.faults.items)
+    (λ told h. founded_as bytes document c.in-Ok.ensures.ok told.faults.items h) c.judge_json.ensures.told
+
+pub returns-in-Ok-clause-warned : goal.returns-in-Ok-clause-warned
+returns-in-Ok-clause-warned c =
+    warned_ok c.args.bytes.now (view c.in-Ok.document) c.in-Ok.ensures.ok c.judge_json.result
+    c.judge_json.ensures.warnings c.judge_json.ensures.placed

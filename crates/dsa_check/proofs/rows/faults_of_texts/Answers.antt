@@ -1,5 +1,5 @@
 use Rattle.dsa_check.proofs.rows.faults_of_texts.Goals as goal
-use Rattle.std.proofs.Common.{◌≡◌, ◌⊎◌, ◌∙◌, ◌==◌, ◌++◌, ◌||◌, ℕ, Bool, false, true, List, [], ◌∷◌, Some, codes, refl, ap, lit≤}
+use Rattle.std.proofs.Common.{◌≡◌, ◌⊎◌, ◌∙◌, ◌==◌, ◌++◌, ◌||◌, ℕ, Bool, false, true, List, [], ◌∷◌, Some, codes, refl, ap, subst, lit≤}
 use Rattle.std.proofs.{Common.{inl, inr, flat_map}, lemmas.List.Folds.{list_any-append}}
 use Rattle.std.specs.List.{list_any}
 use Rattle.std.specs.Prelude.{IsUtf8}
@@ -10,7 +10,11 @@ use Rattle.dsa_scenario.specs.Worked.{no_caps_text, smallest_caps, document_text
 use Rattle.dsa_scenario.proofs.Heads.{document_by, same_caps, same_head}
 use Rattle.dsa_check.specs.declared.finding.{Finding.{Finding}, Reason.{Reason}}
 use Rattle.dsa_check.specs.Lines.{reason_text, fault_part_text, known_number_text, place_text, line_of_finding}
-use Rattle.dsa_check.specs.Lines.{lines_of_finding, finding_text, report_text}
+use Rattle.dsa_check.specs.Lines.{lines_of_finding, finding_text, report_text, warnings_text}
+use Rattle.dsa_check.specs.Warnings.{AreWarningsOf, warnings_told, warnings_of_value}
+use Rattle.dsa_check.proofs.{Told.{same_value}, Warned.{no_lines}}
+use Rattle.dsa_scenario.specs.Document.{IsJson}
+use Rattle.json.specs.Json.{document}
 use Rattle.dsa_check.specs.{Judgement.{AreFaultsOf, IsRight, faults_told, faults_of_value}, Worked.{right_text}}
 
 pub returns-clause-no_json : goal.returns-clause-no_json
@@ -82,6 +86,15 @@ returns-clause-no_device c is =
     let bad : false ≡ true = ap check_caps (same_caps text _ _ _ _ refl is.document.head) ∙ is.opening.good in
     absurd cc
 
+-- it has no warning
+right_warns : (d : Data) → IsJson right_text d → [] ≡ warnings_of_value (document right_text) d
+unfolding serde_json_on_literals
+right_warns d json = subst (λ (v : Data). [] ≡ warnings_of_value (document right_text) v) (same_value right_text _ d refl json.value) refl
+
+no_warning : (warnings : List Finding) → AreWarningsOf right_text warnings → warnings_told warnings ≡ []
+unfolding serde_json_on_literals
+no_warning warnings warned = warned.all _ (record { utf8 = (right_text, (refl, refl)); value = refl })
+
 pub returns-clause-report : goal.returns-clause-report
 unfolding serde_json_on_literals
 returns-clause-report c = record {
@@ -89,6 +102,8 @@ returns-clause-report c = record {
   all = inr (_, record { utf8 = (right_text, (refl, refl)); value = refl }, refl);
   judged = right_is_right;
   told = record { json = λ d json. tt; text = λ none. tt };
+  warnings = [];
+  warned = record { all = right_warns; placed = λ d json. tt; none = λ none. refl };
   first = refl;
   lines = refl;
 }
@@ -109,7 +124,8 @@ returns-clause-right_with_a_fault c is =
 
 pub returns-clause-right_with_a_line : goal.returns-clause-right_with_a_line
 returns-clause-right_with_a_line c is =
-    let lines = rw (none_told is.findings is.all) at is.lines in
+    let none = no_lines is.warnings (no_warning is.warnings is.warned) in
+    let lines = rw (none_told is.findings is.all, none) at is.lines in
     absurd cc
 
 -- ---- the name of the capacity has the letter y, in the lines of its fault too
@@ -158,6 +174,7 @@ returns-clause-second_untold c is =
     elim (of_read text (faults_told is.findings) _ refl is.all) [
       | inl none ↦ none (text, (refl, refl))
       | inr told ↦
-          let none : false ≡ true = ap (list_any is_y) is.lines ∙ in_report is.findings told in
+          let none : false ≡ true = ap (list_any is_y) is.lines
+          ∙ in_first (report_text is.findings) (warnings_text is.warnings) (in_report is.findings told) in
           absurd cc
     ]

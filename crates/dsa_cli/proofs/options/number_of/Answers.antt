@@ -12,5 +12,5 @@ returns-clause-number c text has numeral least most =
     × HasUnsignedDigitsIfOk bs r) (λ t r h. h.0) text c.get_one.result
     (c.get_one.ensures.value text held) numeral (omega (arith, most, c.ranges.most.fits)) in
     let value : c.unwrap_or.result ≡ digits_value 10 (without_leading_plus text) = c.unwrap_or.ensures
-    ∙ ap (λ o. unwrap_or o 1) read in
+    ∙ ap (λ o. unwrap_or o c.args.least) read in
     omega (arith, c.clamp.ensures, value, least, most)

@@ -5,7 +5,8 @@ use Rattle.std.specs.Prelude.{◌==◌}
 use Rattle.clap.specs.{Matches.{found_of}, Walk.{Row, Text, rows_of}, Simple.{App, is_simple, subcommand_of, subcommand_rows_of}}
 use Rattle.clap.specs.{Faults.{fault_of, is_simple_and_free}, Kinds.{HasKind}}
 use Rattle.clap.proofs.OnLiterals.{clap_on_literals}
-use Rattle.dsa_cli.specs.CommandLine.{program_app, faults_of_words}
+use Rattle.std.proofs.lemmas.Bool.{cases_lt}
+use Rattle.dsa_cli.specs.{CommandLine.{AskForWorkers, AsksFor, program_app, faults_of_words}, Threads.{IsAskedInRange}}
 use Rattle.dsa_cli.proofs.OptionNumbers.{name-rows, some_pair}
 
 simple : is_simple program_app ≡ true
@@ -40,16 +41,31 @@ returns-then-is_empty-clause-faults c =
 pub returns-in-Some-clause-faults : goal.returns-in-Some-clause-faults
 returns-in-Some-clause-faults c = well _ _ c.in_ok-command_line.ensures c.in_ok-matches.ensures.kinds
 
+pub returns-in-Some-clause-range : goal.returns-in-Some-clause-range
+returns-in-Some-clause-range c =
+    let load = c.workload_of.result in
+    elim (cases_lt load.size load.threshold) [
+      | inl high ↦ subst IsAskedInRange (sym (c.asked_by.ensures.refused high)) tt
+      | inr low ↦ subst IsAskedInRange (sym (c.asked_by.ensures.workers low)) (c.workload_of.ensures.range low)
+    ]
+
 pub returns-in-Some-clause-asked : goal.returns-in-Some-clause-asked
 returns-in-Some-clause-asked c =
+    let words = map string_bytes c.args.words.now in
+    let load = c.workload_of.result in
     let met = met _ _ _ c.in_ok-command_line.ensures c.in_ok-matches.ensures.matches in
     let name = name-rows c.in_ok-matches.matches ∙ c.in-Some.ensures.found.0 refl in
     let rows = some_pair (subcommand_rows_of c.in_ok-matches.matches) (codes "threads")
-    (rows_of (found_of c.in-Some.given.now)) name c.in-Some.ensures.rows in (
+    (rows_of (found_of c.in-Some.given.now)) name c.in-Some.ensures.rows in
+    let ask : AskForWorkers words load = (
       rows_of (found_of c.in-Some.given.now),
       (returns-in-Some-clause-faults c, sym met ∙ rows),
       c.workload_of.ensures.numbers,
-    )
+    ) in
+    elim (cases_lt load.size load.threshold) [
+      | inl high ↦ subst (AsksFor words) (sym (c.asked_by.ensures.refused high)) (ask, high)
+      | inr low ↦ subst (AsksFor words) (sym (c.asked_by.ensures.workers low)) ask
+    ]
 
 pub returns-in-Some-report_of-clause-faults : goal.returns-in-Some-report_of-clause-faults
 returns-in-Some-report_of-clause-faults c = well _ _ c.in_ok-command_line.ensures c.in_ok-matches.ensures.kinds

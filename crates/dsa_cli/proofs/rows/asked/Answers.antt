@@ -4,7 +4,7 @@ use Rattle.std.proofs.Common.{ap, subst, arith, lit≤, lit<}
 use Rattle.std.specs.{Str.Parse.{IsNumeral, digits_value, without_leading_plus}, Prelude.{option_and_then}}
 use Rattle.clap.specs.{Walk.{Row, Text, one_of}, declared.error.kind.ErrorKind.TheVariants.{UnknownArgument}}
 use Rattle.clap.proofs.OnLiterals.{clap_on_literals}
-use Rattle.dsa_cli.specs.CommandLine.{IsReportName}
+use Rattle.dsa_cli.specs.{CommandLine.{IsReportName}, Worked.{load}}
 use Rattle.dsa_cli.proofs.ReportNames.{same_first, no_report}
 
 -- the number that a text says
@@ -14,6 +14,9 @@ number_in o = digits_value 10 (without_leading_plus (unwrap_or o []))
 -- the name of a command, and the text of an option
 abbrev name_in : Option (Text × List Row) → Text
 name_in found = unwrap_or (option_map (λ (p : Text × List Row). p.0) found) []
+
+abbrev strict_in : Option (Text × List Row) → Option Text
+strict_in found = option_and_then (λ (p : Text × List Row). one_of (codes "strict") p.1) found
 
 abbrev engines_in : Option (Text × List Row) → Option Text
 engines_in found = option_and_then (λ (p : Text × List Row). one_of (codes "engines") p.1) found
@@ -49,12 +52,62 @@ returns-clause-threads c = (
     engines = λ text has numeral least most. ap number_in has;
     each = λ text has numeral least most. ap number_in has;
     turns = λ text has numeral least most. ap number_in has;
+    size = λ text has numeral least most. ap number_in has;
+    threshold = λ text has numeral least most. ap number_in has;
+    slots = λ text has numeral least most. ap number_in has;
+    buffers = λ text has numeral least most. ap number_in has;
   },
 )
 
+pub returns-clause-high_threshold : goal.returns-clause-high_threshold
+unfolding clap_on_literals
+returns-clause-high_threshold c = (
+  (
+    _,
+    (refl, refl),
+    record {
+      clients = λ text has numeral least most. ap number_in has;
+      engines = λ text has numeral least most. ap number_in has;
+      each = λ text has numeral least most. ap number_in has;
+      turns = λ text has numeral least most. ap number_in has;
+      size = λ text has numeral least most. ap number_in has;
+      threshold = λ text has numeral least most. ap number_in has;
+      slots = λ text has numeral least most. ap number_in has;
+      buffers = λ text has numeral least most. ap number_in has;
+    },
+  ),
+  lit< tt,
+)
+
+pub returns-clause-mistaken_threshold : goal.returns-clause-mistaken_threshold
+returns-clause-mistaken_threshold c =
+    inr (record (load 2 2 100 10_000) { threshold = 17 }, returns-clause-high_threshold c)
+
+pub returns-clause-threshold_at_the_size : goal.returns-clause-threshold_at_the_size
+returns-clause-threshold_at_the_size c asks = omega (arith, asks.1)
+
 pub returns-clause-check : goal.returns-clause-check
 unfolding clap_on_literals
-returns-clause-check c = (_, (refl, refl, inl refl), refl)
+returns-clause-check c = (_, (refl, refl, inl refl), (refl, record { strict = λ has. absurd cc; lenient = λ has. refl }))
+
+pub returns-clause-strict_check : goal.returns-clause-strict_check
+unfolding clap_on_literals
+returns-clause-strict_check c =
+    (_, (refl, refl, inl refl), (refl, record { strict = λ has. refl; lenient = λ has. absurd cc }))
+
+pub returns-clause-no_plain_check : goal.returns-clause-no_plain_check
+unfolding clap_on_literals
+returns-clause-no_plain_check c asks =
+    let option = ap strict_in asks.1.1 in
+    let same = asks.2.1.strict (sym option) in
+    cc
+
+pub returns-clause-no_strict_check : goal.returns-clause-no_strict_check
+unfolding clap_on_literals
+returns-clause-no_strict_check c asks =
+    let option = ap strict_in asks.1.1 in
+    let same = asks.2.1.lenient (sym option) in
+    cc
 
 pub returns-clause-explain : goal.returns-clause-explain
 unfolding clap_on_literals
@@ -90,27 +143,35 @@ returns-clause-json c = (_, (refl, refl, inr (inr (inl refl))), (refl, record { 
 
 pub returns-clause-mistaken : goal.returns-clause-mistaken
 unfolding clap_on_literals
-returns-clause-mistaken c = (UnknownArgument, inl refl, (λ same. cc), (λ same. cc))
+returns-clause-mistaken c = inl (UnknownArgument, inl refl, (λ same. cc), (λ same. cc))
 
 pub returns-clause-help : goal.returns-clause-help
 unfolding clap_on_literals
 returns-clause-help c mistake =
-    elim mistake.1 [
-      | inl help ↦ mistake.2 help
-      | inr none ↦ none
+    elim mistake [
+      | inl found ↦
+          elim found.1 [
+            | inl help ↦ found.2 help
+            | inr none ↦ none
+          ]
+      | inr high ↦ let none = high.1.0.1.0 in cc
     ]
 
 pub returns-clause-version : goal.returns-clause-version
 unfolding clap_on_literals
 returns-clause-version c mistake =
-    elim mistake.1 [
-      | inl version ↦ mistake.3 version
-      | inr none ↦ none
+    elim mistake [
+      | inl found ↦
+          elim found.1 [
+            | inl version ↦ found.3 version
+            | inr none ↦ none
+          ]
+      | inr high ↦ let none = high.1.0.1.0 in cc
     ]
 
 pub returns-clause-other_report : goal.returns-clause-other_report
 unfolding clap_on_literals
-returns-clause-other_report c asks = omega (arith, same_first (ap name_in asks.1.1 ∙ asks.2))
+returns-clause-other_report c asks = omega (arith, same_first (ap name_in asks.1.1 ∙ asks.2.0))
 
 pub returns-clause-nothing_is_no_report : goal.returns-clause-nothing_is_no_report
 unfolding clap_on_literals
@@ -129,7 +190,11 @@ returns-clause-other_numbers c asks =
 
 pub returns-clause-none : goal.returns-clause-none
 unfolding clap_on_literals
-returns-clause-none c mistake = mistake.1
+returns-clause-none c mistake =
+    elim mistake [
+      | inl found ↦ found.1
+      | inr high ↦ let none = high.1.0.1.1 in cc
+    ]
 
 pub returns-clause-understood : goal.returns-clause-understood
 unfolding clap_on_literals

@@ -7,6 +7,10 @@ returns-clause-least c = record {
   engines = (lit≤ tt, lit≤ tt);
   each = (lit≤ tt, lit≤ tt);
   turns = (lit≤ tt, lit≤ tt);
+  size = (lit≤ tt, lit≤ tt);
+  threshold = (lit≤ tt, lit≤ tt);
+  slots = (lit≤ tt, lit≤ tt);
+  buffers = (lit≤ tt, lit≤ tt);
 }
 
 pub returns-clause-most : goal.returns-clause-most
@@ -15,6 +19,10 @@ returns-clause-most c = record {
   engines = (lit≤ tt, lit≤ tt);
   each = (lit≤ tt, lit≤ tt);
   turns = (lit≤ tt, lit≤ tt);
+  size = (lit≤ tt, lit≤ tt);
+  threshold = (lit≤ tt, lit≤ tt);
+  slots = (lit≤ tt, lit≤ tt);
+  buffers = (lit≤ tt, lit≤ tt);
 }
 
 pub returns-clause-no_client : goal.returns-clause-no_client
@@ -40,3 +48,27 @@ returns-clause-no_turn c load = omega (arith, load.turns)
 
 pub returns-clause-many_turns : goal.returns-clause-many_turns
 returns-clause-many_turns c load = omega (arith, load.turns)
+
+pub returns-clause-no_size : goal.returns-clause-no_size
+returns-clause-no_size c load = omega (arith, load.size)
+
+pub returns-clause-large_size : goal.returns-clause-large_size
+returns-clause-large_size c load = omega (arith, load.size)
+
+pub returns-clause-no_threshold : goal.returns-clause-no_threshold
+returns-clause-no_threshold c load = omega (arith, load.threshold)
+
+pub returns-clause-high_threshold : goal.returns-clause-high_threshold
+returns-clause-high_threshold c load = omega (arith, load.threshold)
+
+pub returns-clause-no_slot : goal.returns-clause-no_slot
+returns-clause-no_slot c load = omega (arith, load.slots)
+
+pub returns-clause-many_slots : goal.returns-clause-many_slots
+returns-clause-many_slots c load = omega (arith, load.slots)
+
+pub returns-clause-few_buffers : goal.returns-clause-few_buffers
+returns-clause-few_buffers c load = omega (arith, load.buffers)
+
+pub returns-clause-many_buffers : goal.returns-clause-many_buffers
+returns-clause-many_buffers c load = omega (arith, load.buffers)

@@ -23,6 +23,22 @@ pub returns-clause-conform : goal.returns-clause-conform
 unfolding clap_on_literals
 returns-clause-conform c = inr (inr (inr (inr refl)))
 
+pub returns-clause-asks_check : goal.returns-clause-asks_check
+unfolding clap_on_literals
+returns-clause-asks_check c = (refl, record { strict = λ has. absurd cc; lenient = λ has. refl })
+
+pub returns-clause-asks_strict_check : goal.returns-clause-asks_strict_check
+unfolding clap_on_literals
+returns-clause-asks_strict_check c = (refl, record { strict = λ has. refl; lenient = λ has. absurd cc })
+
+pub returns-clause-no_strict_check : goal.returns-clause-no_strict_check
+unfolding clap_on_literals
+returns-clause-no_strict_check c asked = let same = asked.1.lenient refl in cc
+
+pub returns-clause-no_plain_check : goal.returns-clause-no_plain_check
+unfolding clap_on_literals
+returns-clause-no_plain_check c asked = let same = asked.1.strict refl in cc
+
 pub returns-clause-asks_trace : goal.returns-clause-asks_trace
 unfolding clap_on_literals
 returns-clause-asks_trace c = (refl, record { json = λ has. absurd cc; table = λ has. refl })

@@ -46,6 +46,10 @@ returns-clause-many_clients c = record {
   engines = λ text has. absurd cc;
   each = λ text has. absurd cc;
   turns = λ text has. absurd cc;
+  size = λ text has. absurd cc;
+  threshold = λ text has. absurd cc;
+  slots = λ text has. absurd cc;
+  buffers = λ text has. absurd cc;
 }
 
 pub returns-clause-many_engines : goal.returns-clause-many_engines
@@ -55,6 +59,10 @@ returns-clause-many_engines c = record {
   engines = λ text has numeral least most. past_bound 9 8 text (lit< tt) (ap number_in has) most;
   each = λ text has. absurd cc;
   turns = λ text has. absurd cc;
+  size = λ text has. absurd cc;
+  threshold = λ text has. absurd cc;
+  slots = λ text has. absurd cc;
+  buffers = λ text has. absurd cc;
 }
 
 pub returns-clause-much_each : goal.returns-clause-much_each
@@ -64,6 +72,10 @@ returns-clause-much_each c = record {
   engines = λ text has. absurd cc;
   each = λ text has numeral least most. past_bound 1_001 1_000 text (lit< tt) (ap number_in has) most;
   turns = λ text has. absurd cc;
+  size = λ text has. absurd cc;
+  threshold = λ text has. absurd cc;
+  slots = λ text has. absurd cc;
+  buffers = λ text has. absurd cc;
 }
 
 pub returns-clause-many_turns : goal.returns-clause-many_turns
@@ -73,7 +85,35 @@ returns-clause-many_turns c = record {
   engines = λ text has. absurd cc;
   each = λ text has. absurd cc;
   turns = λ text has numeral least most. past_bound 40_001 40_000 text (lit< tt) (ap number_in has) most;
+  size = λ text has. absurd cc;
+  threshold = λ text has. absurd cc;
+  slots = λ text has. absurd cc;
+  buffers = λ text has. absurd cc;
+}
+
+pub returns-clause-few_buffers : goal.returns-clause-few_buffers
+unfolding clap_on_literals
+returns-clause-few_buffers c = record {
+  clients = λ text has. absurd cc;
+  engines = λ text has. absurd cc;
+  each = λ text has. absurd cc;
+  turns = λ text has. absurd cc;
+  size = λ text has. absurd cc;
+  threshold = λ text has. absurd cc;
+  slots = λ text has. absurd cc;
+  buffers = λ text has numeral least most.
+      let is : 3 ≡ digits_value 10 (without_leading_plus text) = ap number_in has in
+      absurd (omega (arith, is, least));
 }
 
 pub returns-clause-all : goal.returns-clause-all
-returns-clause-all c rows asked numbers = (numbers.clients, numbers.engines, numbers.each, numbers.turns)
+returns-clause-all c rows asked numbers = (
+  numbers.clients,
+  numbers.engines,
+  numbers.each,
+  numbers.turns,
+  numbers.size,
+  numbers.threshold,
+  numbers.slots,
+  numbers.buffers,
+)

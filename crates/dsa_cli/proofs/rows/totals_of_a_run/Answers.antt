@@ -26,11 +26,11 @@ use Rattle.dsa_cli.proofs.FewNumbers.{below_one, below_two}
 
 -- a call that may come after this history
 answered : (receipts history : List Step) (call : Step) → length history ≤ 20
-    → is_legal (caps_for 2) history ≡ true → length receipts ≤ length history
-    → is_some (after_answer (device_of (caps_for 2) 20 history) call.event call.reply) ≡ true
-    → IsCallAnswered (caps_for 2) 20 receipts call
+    → is_legal (caps_for (load 1 2 3 4)) history ≡ true → length receipts ≤ length history
+    → is_some (after_answer (device_of (caps_for (load 1 2 3 4)) 20 history) call.event call.reply) ≡ true
+    → IsCallAnswered (caps_for (load 1 2 3 4)) 20 receipts call
 answered receipts history call within legal seen may =
-    answered_after (caps_for 2) 20 receipts history call.event call.reply refl (lit≤ tt) within legal seen may
+    answered_after (caps_for (load 1 2 3 4)) 20 receipts history call.event call.reply refl (lit≤ tt) within legal seen may
 
 -- ---- the client
 
@@ -57,7 +57,7 @@ script = move_under 1 ∷ move_under 1 ∷ move_under 1 ∷ []
 submits : Submits 1 (move_under 1)
 submits = record { queue = refl; portal = refl; kind = refl; bytes = refl }
 
-client_ran : RanAsClient (caps_for 2) 20 (load 1 2 3 4) 0 (record { number = 0; receipts = three_moves })
+client_ran : RanAsClient (caps_for (load 1 2 3 4)) 20 (load 1 2 3 4) 0 (record { number = 0; receipts = three_moves })
 client_ran = (
   script,
   record { turns = 3; ended = ScriptDone },
@@ -68,10 +68,10 @@ client_ran = (
     runs = record {
       calls = three_moves;
       receipts = refl;
-      in_order = three (NextSubmission (caps_for 2) 20 (fresh 0) script)
-          (answered [] (setup_steps 2) first (lit≤ tt) refl (lit≤ tt) refl, λ d. refl)
-          (answered (first ∷ []) (setup_steps 2 ++ first ∷ []) second (lit≤ tt) refl (lit≤ tt) refl, λ d. refl) (
-            answered (first ∷ second ∷ []) (setup_steps 2 ++ first ∷ second ∷ []) third (lit≤ tt) refl (lit≤ tt) refl,
+      in_order = three (NextSubmission (caps_for (load 1 2 3 4)) 20 (fresh 0) script)
+          (answered [] (setup_steps (load 1 2 3 4)) first (lit≤ tt) refl (lit≤ tt) refl, λ d. refl)
+          (answered (first ∷ []) (setup_steps (load 1 2 3 4) ++ first ∷ []) second (lit≤ tt) refl (lit≤ tt) refl, λ d. refl) (
+            answered (first ∷ second ∷ []) (setup_steps (load 1 2 3 4) ++ first ∷ second ∷ []) third (lit≤ tt) refl (lit≤ tt) refl,
             λ d. refl,
           );
       stops = three (λ before call. found_full before ≡ 0) refl refl refl;
@@ -122,16 +122,16 @@ module _ (e cell name : ℕ) where
       (in_order_more next (Some taken ∷ []) (Some no_fetch)
       (in_order_more next [] (Some taken) (in_order_none next) one) two) three) last
 
-  engine_ran : IsCallAnswered (caps_for 2) 20 [] taken → IsCallAnswered (caps_for 2) 20 (taken ∷ []) no_fetch
-      → IsCallAnswered (caps_for 2) 20 (taken ∷ []) no_start → IsCallAnswered (caps_for 2) 20 (taken ∷ []) ended
-      → RanAsEngine (caps_for 2) 20 (load 1 2 3 4) e (record { number = e; receipts = entry_worked_off e cell name })
+  engine_ran : IsCallAnswered (caps_for (load 1 2 3 4)) 20 [] taken → IsCallAnswered (caps_for (load 1 2 3 4)) 20 (taken ∷ []) no_fetch
+      → IsCallAnswered (caps_for (load 1 2 3 4)) 20 (taken ∷ []) no_start → IsCallAnswered (caps_for (load 1 2 3 4)) 20 (taken ∷ []) ended
+      → RanAsEngine (caps_for (load 1 2 3 4)) 20 (load 1 2 3 4) e (record { number = e; receipts = entry_worked_off e cell name })
   engine_ran one two three last = (
     record { turns = 4; ended = TurnsOut },
     record {
       turns = Some taken ∷ Some no_fetch ∷ Some no_start ∷ Some ended ∷ [];
       number = refl;
       receipts = refl;
-      in_order = four (NextTurn (caps_for 2) 20 (fresh e) engine_script) (one, refl) (two, refl) (three, refl)
+      in_order = four (NextTurn (caps_for (load 1 2 3 4)) 20 (fresh e) engine_script) (one, refl) (two, refl) (three, refl)
           (last, refl);
       stops = four (λ before turn. found_full (calls_of before) ≡ 0) refl refl refl refl;
       count = refl;
@@ -146,12 +146,12 @@ module _ (e cell name : ℕ) where
 
 -- the history before engine 0 works, and before engine 1 does
 abbrev before_first : List Step
-before_first = setup_steps 2 ++ three_moves
+before_first = setup_steps (load 1 2 3 4) ++ three_moves
 
 abbrev before_second : List Step
-before_second = setup_steps 2 ++ three_moves ++ entry_worked_off 0 3 0
+before_second = setup_steps (load 1 2 3 4) ++ three_moves ++ entry_worked_off 0 3 0
 
-first_engine_ran : RanAsEngine (caps_for 2) 20 (load 1 2 3 4) 0
+first_engine_ran : RanAsEngine (caps_for (load 1 2 3 4)) 20 (load 1 2 3 4) 0
     (record { number = 0; receipts = entry_worked_off 0 3 0 })
 first_engine_ran = engine_ran 0 3 0
     (answered [] before_first (taken 0 3 0) (lit≤ tt) refl (lit≤ tt) refl)
@@ -159,7 +159,7 @@ first_engine_ran = engine_ran 0 3 0
     (answered (taken 0 3 0 ∷ []) (before_first ++ taken 0 3 0 ∷ []) (no_start 0 3 0) (lit≤ tt) refl (lit≤ tt) refl)
     (answered (taken 0 3 0 ∷ []) (before_first ++ taken 0 3 0 ∷ []) (ended 0 3 0) (lit≤ tt) refl (lit≤ tt) refl)
 
-second_engine_ran : RanAsEngine (caps_for 2) 20 (load 1 2 3 4) 1
+second_engine_ran : RanAsEngine (caps_for (load 1 2 3 4)) 20 (load 1 2 3 4) 1
     (record { number = 1; receipts = entry_worked_off 1 5 1 })
 second_engine_ran = engine_ran 1 5 1
     (answered [] before_second (taken 1 5 1) (lit≤ tt) refl (lit≤ tt) refl)
@@ -187,11 +187,11 @@ returns-clause-totals c = record {
   accepted = lit≤ tt;
   accepted_one = lit≤ tt;
   client_runs = below_one
-      (λ n. RanAsClient (caps_for 2) 20 (load 1 2 3 4) n
+      (λ n. RanAsClient (caps_for (load 1 2 3 4)) 20 (load 1 2 3 4) n
       (record { number = n; receipts = steps_of_actor steps_of_three_moves (Client n) }))
       client_ran;
   engine_runs = below_two
-      (λ n. RanAsEngine (caps_for 2) 20 (load 1 2 3 4) n
+      (λ n. RanAsEngine (caps_for (load 1 2 3 4)) 20 (load 1 2 3 4) n
       (record { number = n; receipts = steps_of_actor steps_of_three_moves (Engine n) }))
       first_engine_ran second_engine_ran;
 }
@@ -211,9 +211,9 @@ returns-clause-seats c = record {
       all_submitted client less;
   setup = refl;
   client_runs = λ client other less. below_one
-      (λ n. RanAsClient (caps_for 2) 20 (load 1 2 3 4) n (slice_index_or client_seats_after n other)) client_ran
+      (λ n. RanAsClient (caps_for (load 1 2 3 4)) 20 (load 1 2 3 4) n (slice_index_or client_seats_after n other)) client_ran
       client less;
   engine_runs = λ engine other less. below_two
-      (λ n. RanAsEngine (caps_for 2) 20 (load 1 2 3 4) n (slice_index_or engine_seats_after n other))
+      (λ n. RanAsEngine (caps_for (load 1 2 3 4)) 20 (load 1 2 3 4) n (slice_index_or engine_seats_after n other))
       first_engine_ran second_engine_ran engine less;
 }

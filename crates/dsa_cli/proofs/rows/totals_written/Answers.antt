@@ -11,6 +11,10 @@ numbers = record {
   engines = λ text has. absurd cc;
   each = λ text has. absurd cc;
   turns = λ text has. absurd cc;
+  size = λ text has. absurd cc;
+  threshold = λ text has. absurd cc;
+  slots = λ text has. absurd cc;
+  buffers = λ text has. absurd cc;
 }
 
 in_range : IsInRange (load 1 2 3 4)
@@ -19,6 +23,10 @@ in_range = record {
   engines = (lit≤ tt, lit≤ tt);
   each = (lit≤ tt, lit≤ tt);
   turns = (lit≤ tt, lit≤ tt);
+  size = (lit≤ tt, lit≤ tt);
+  threshold = (lit≤ tt, lit≤ tt);
+  slots = (lit≤ tt, lit≤ tt);
+  buffers = (lit≤ tt, lit≤ tt);
 }
 
 pub returns-clause-all : goal.returns-clause-all

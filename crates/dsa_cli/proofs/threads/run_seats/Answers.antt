@@ -16,7 +16,7 @@ returns-then-none_full-clause-ok g c =
     let done : c.set_up.result ≡ true = search rules in
     have_worked _ _ c.args.load.now c.in_ok-scripts.scripts _ _ _ _ _ _ _ _ _ _
     c.requires.clients c.requires.engines c.in_ok-scripts.ensures
-    refl (c.set_up.ensures.done done ∙ ap (λ (l : List Step). l ++ setup_steps c.args.load.now.engines) begun)
+    refl (c.set_up.ensures.done done ∙ ap (λ (l : List Step). l ++ setup_steps c.args.load.now) begun)
     ran.back.0 ran.back.1 ran.clients ran.engines ran.admin
     (λ k lt. none k TurnsOut (omega (arith, lt, ran.items.1)))
     (λ k lt. none (c.args.seats.now.clients.len + k) TurnsOut (omega (arith, lt, ran.items.1)))

@@ -14,8 +14,15 @@ returns-in-Err-clause-mistake g c two =
     let shown = c.show.ensures.mistake two in
     elim c.in-Err.ensures.faults [
       | inl memory ↦ absurd (shown.0 memory)
-      | inr among ↦ (kind_of c.in-Err.error, among, shown.1, shown.2)
+      | inr among ↦ inl (kind_of c.in-Err.error, among, shown.1, shown.2)
     ]
+
+pub returns-in-Ok-HighThreshold-clause-mistake : goal.returns-in-Ok-HighThreshold-clause-mistake
+returns-in-Ok-HighThreshold-clause-mistake g c two =
+    let asks : AsksFor (map string_bytes c.args.words.now) (asked.HighThreshold c.in-Ok-HighThreshold.load) =
+    subst (λ a. AsksFor (map string_bytes c.args.words.now) a) c.in-Ok-HighThreshold.field-0-is
+    c.in-Ok-HighThreshold.ensures.asked in
+    inr (c.in-Ok-HighThreshold.load, asks)
 
 pub returns-in-Ok-Threads-clause-threads : goal.returns-in-Ok-Threads-clause-threads
 returns-in-Ok-Threads-clause-threads g c zero rows named =
@@ -46,12 +53,22 @@ returns-in-Ok-Report-clause-reports_failed g c one found named =
     let same : told_of.0 ≡ found = same_found _ _ _ told_of.1 named in
     let by : IsAskedBy found c.in-Ok-Report.report =
     subst (λ f. IsAskedBy f c.in-Ok-Report.report) same told_of.2 in
-    let told = c.write_text-in-Ok-Report.ensures.failed one in (
+    let told = c.write_report.ensures.failed one in (
       told.0,
       elim told.1 [
         | inl all ↦ inl (c.in-Ok-Report.report, by, all)
         | inr none ↦
-            inr ((none.0.0, none.0.1, λ e. (c.in-Ok-Report.report, by, none.0.2 e)), none.1)
+            inr (
+              (
+                none.0.0,
+                λ other. elim (none.0.1 other) [
+                  | inl kept ↦ inl kept
+                  | inr rows ↦ inr (rows.0, (c.in-Ok-Report.report, by, rows.1))
+                ],
+                λ e. (c.in-Ok-Report.report, by, none.0.2 e),
+              ),
+              none.1,
+            )
       ],
       told.2,
     )
@@ -61,7 +78,7 @@ returns-in-Err-clause-reports_failed g c one found named =
     elim c.in-Err.ensures.faults [
       | inl memory ↦
           let kept = c.show.ensures.memory memory in
-          (OutOfMemory, inr ((tt, λ other. kept.1, λ e. absurd cc), λ e. absurd cc), c.show.ensures.told memory)
+          (OutOfMemory, inr ((tt, λ other. inl kept.1, λ e. absurd cc), λ e. absurd cc), c.show.ensures.told memory)
       | inr among ↦ absurd (subst (λ faults. IsAmong (kind_of c.in-Err.error) faults) named.0 among)
     ]
 

@@ -1,5 +1,6 @@
 use Rattle.dsa_cli.proofs.words.run_words.Goals as goal
 use Rattle.std.proofs.Common.{◌≡◌, ◌∙◌, ap, inl, inr, rules}
+use Rattle.dsa_cli.proofs.OnTheWay.{cut_with, begun_with}
 
 pub returns-clause-done : goal.returns-clause-done
 returns-clause-done g c plain zero =
@@ -72,15 +73,21 @@ returns-clause-reports_failed g c one found named =
             let stopped = none.0 in
             inr (
               stopped.0,
-              λ other.
-                  let same : c.answer_words.new.out.writer.now ≡ c.args.out.now =
-                  ap (λ watched. watched.writer.now) (stopped.1 other) ∙ c.new-out.ensures.writer in
-                  search rules,
+              λ other. elim (stopped.1 other) [
+                | inl kept ↦
+                    let same : c.answer_words.new.out.writer.now ≡ c.args.out.now =
+                    ap (λ watched. watched.writer.now) kept ∙ c.new-out.ensures.writer in
+                    inl (search rules)
+                | inr rows ↦
+                    let begun = rows.1 in
+                    inr (
+                      rows.0,
+                      (begun.0, begun.1, begun_with begun.0 _ _ _ _ _ _ begun.2 (λ text more. search (rules, more))),
+                    )
+              ],
               λ e.
                   let cut = stopped.2 e in
-                  let first = cut.2 in
-                  let more = first.7 in
-                  (cut.0, cut.1, (first.0, first.1, first.2, first.3, first.4, first.5, first.6, search (rules, more))),
+                  (cut.0, cut.1, cut_with cut.0 _ _ _ _ _ _ cut.2 (λ text more. search (rules, more))),
             )
       ],
     )

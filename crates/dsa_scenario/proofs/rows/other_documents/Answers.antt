@@ -152,6 +152,13 @@ returns-clause-text_not_opened c is =
 pub returns-clause-another_text : goal.returns-clause-another_text
 returns-clause-another_text c is = is.of_run.rendered refl
 
+pub returns-clause-no_lines_begun : goal.returns-clause-no_lines_begun
+returns-clause-no_lines_begun c is = no_keys is.caps is.capacity is.document.steps is.document.head
+
+pub returns-clause-not_opened_to_begin : goal.returns-clause-not_opened_to_begin
+returns-clause-not_opened_to_begin c is =
+    omega (arith, not_opened is.caps is.capacity is.actions is.document, is.opening.small)
+
 -- the run of a poll
 rendering : IsRenderingOf poll_text (codes "nothing\n")
 unfolding serde_json_on_literals

@@ -1,0 +1,192 @@
+//! Worked warnings: what the definitions find odd at chosen values, by computation.
+
+ghost use Rattle.std.specs.Prelude.{◌≡◌, List, [], ◌∷◌, true, false, Some, None, codes, map, replicate};
+ghost use Rattle.std.specs.declared.{alloc.Global.{Global}, vec.Vec.{Vec}};
+ghost use Rattle.serde_json.specs.Data.{null, boolean, string, array, no_items, item};
+ghost use Rattle.dsa_scenario.specs.declared.faults.ScenarioFault.TheVariants.{BadDocument, BadStep, BadCaps};
+ghost use Rattle.dsa_scenario.specs.declared.fields.Form.TheVariants as form;
+ghost use Rattle.dsa_scenario.specs.declared.actions.StepKind.TheVariants.{Clear, Movdir, Poll};
+ghost use Rattle.dsa_scenario.specs.Actions.{rows_of_kind};
+ghost use Rattle.dsa_scenario.specs.Worked.{whole, object_of, fields_without, changed, some_caps, poll_step, clear_step, movdir_step};
+ghost use Rattle.dsa_check.specs.declared.finding.{Finding.{Finding}, Reason.{Reason}};
+ghost use Rattle.dsa_check.specs.declared.finding.Reason.TheVariants.{NotUtf8};
+ghost use Rattle.dsa_check.specs.Check.{first_of, faults_warned};
+ghost use Rattle.dsa_check.specs.Findings.{IsNowhere};
+ghost use Rattle.json.specs.Json as json;
+ghost use Rattle.dsa_check.specs.Lines.{stray_text, twice_text, warning_line};
+ghost use Rattle.dsa_check.specs.Repeats.{keys_written, how_often, keys_again};
+ghost use Rattle.dsa_check.specs.Tables.{document_rows};
+ghost use Rattle.dsa_check.specs.Warnings.{names_of, remark_names, step_names, is_named, list_of, told_keys, is_stray, plain_key, near_name, step_texts, caps_warnings, warnings_of_value, warned_in, IsStepPlace, HasPlace, AreWarningsOf};
+ghost use Rattle.dsa_check.specs.Worked.{right_document, found_at, document_of_null, written_object, keys_in_caps, written_twice};
+
+/// Each part of a document has its warnings: the document, its caps and its steps, in this order.
+#[tactic(auto, unfolding(crate::specs::Worked::near_on_literals))]
+pub fn warnings_of_each_part()
+    ensures none { warnings_of_value None (object_of right_document) ≡ [] }
+    ensures no_object { warnings_of_value None null ≡ [] }
+    ensures no_caps { caps_warnings None None ≡ [] }
+    ensures document { warnings_of_value None (object_of ((codes "step", null) ∷ right_document))
+        ≡ (BadDocument, None, codes "\"step\" is no key here, but \"steps\" is") ∷ [] }
+    ensures caps { warnings_of_value None
+        (changed (codes "caps") (object_of ((codes "portals", null) ∷ some_caps)) right_document)
+        ≡ (BadCaps, None, codes "\"portals\" is no key here") ∷ [] }
+    ensures steps { warnings_of_value None
+        (changed (codes "steps")
+        (array (item (object_of poll_step) (item (object_of ((codes "zf", null) ∷ poll_step))
+        (item null (item (object_of ((codes "word", null) ∷ clear_step)) no_items)))))
+        right_document)
+        ≡ (BadStep 1, Some Poll, codes "\"zf\" is null, true or false is wanted")
+        ∷ (BadStep 3, Some Clear, codes "\"word\" is no key here") ∷ [] }
+    ensures order { warnings_of_value None
+        (object_of
+        ((codes "steps", array (item (object_of ((codes "a", null) ∷ poll_step)) no_items))
+        ∷ (codes "b", null) ∷ (codes "caps", object_of ((codes "c", null) ∷ some_caps)) ∷ []))
+        ≡ (BadDocument, None, codes "\"b\" is no key here")
+        ∷ (BadCaps, None, codes "\"c\" is no key here")
+        ∷ (BadStep 0, Some Poll, codes "\"a\" is no key here") ∷ [] }
+    ensures remarks { warnings_of_value None
+        (object_of ((codes "note", null)
+        ∷ (codes "steps", array (item (object_of ((codes "note", null) ∷ poll_step)) no_items))
+        ∷ (codes "caps", object_of ((codes "note", null) ∷ some_caps)) ∷ []))
+        ≡ [] }
+{}
+
+/// What is odd in a step: first what another device was seen to answer, then each key that nothing
+/// reads. A key that a fault tells as the spelling of one that is missing is told once.
+#[tactic(auto, unfolding(crate::specs::Worked::near_on_literals, dsa_scenario::specs::Worked::digits_on_literals))]
+pub fn oddities_of_steps()
+    ensures answer { step_texts [] (object_of ((codes "answer", whole 0) ∷ poll_step))
+        ≡ codes "\"answer\" is 0, a text is wanted" ∷ [] }
+    ensures flag { step_texts [] (object_of ((codes "zf", string (codes "true")) ∷ poll_step))
+        ≡ codes "\"zf\" is a text, true or false is wanted" ∷ [] }
+    ensures all { step_texts []
+        (object_of ((codes "b", null) ∷ (codes "zf", null) ∷ (codes "answer", null)
+        ∷ (codes "a", null) ∷ poll_step))
+        ≡ codes "\"answer\" is null, a text is wanted"
+        ∷ codes "\"zf\" is null, true or false is wanted" ∷ codes "\"b\" is no key here"
+        ∷ codes "\"a\" is no key here" ∷ [] }
+    ensures right { step_texts []
+        (object_of ((codes "answer", string []) ∷ (codes "zf", boolean true) ∷ (codes "note", null)
+        ∷ movdir_step))
+        ≡ [] }
+    ensures no_kind { step_texts []
+        (object_of ((codes "answer", null) ∷ (codes "a", null) ∷ []))
+        ≡ codes "\"answer\" is null, a text is wanted" ∷ [] }
+    ensures no_object { step_texts [] null ≡ [] }
+    ensures other_kind { step_texts [] (object_of ((codes "pasid", whole 1) ∷ movdir_step))
+        ≡ codes "\"pasid\" is no key here" ∷ [] }
+    ensures told { step_texts []
+        (object_of ((codes "limitd", null) ∷ fields_without (codes "limited") movdir_step))
+        ≡ [] }
+    ensures untold { step_texts [] (object_of ((codes "limitd", null) ∷ movdir_step))
+        ≡ codes "\"limitd\" is no key here, but \"limited\" is" ∷ [] }
+    ensures seen { step_texts [] (object_of ((codes "answr", null) ∷ poll_step))
+        ≡ codes "\"answr\" is no key here, but \"answer\" is" ∷ [] }
+{}
+
+/// Keys that are known, that a fault tells, and that nothing reads.
+#[tactic(auto, unfolding(crate::specs::Worked::near_on_literals))]
+pub fn keys_that_nothing_reads()
+    ensures names { names_of document_rows
+        ≡ codes "caps" ∷ codes "capacity" ∷ codes "steps" ∷ [] }
+    ensures remarks { remark_names ≡ codes "note" ∷ [] }
+    ensures of_steps { step_names
+        ≡ codes "do" ∷ codes "answer" ∷ codes "zf" ∷ codes "note" ∷ [] }
+    ensures named { map (is_named step_names) (codes "zf" ∷ codes "ZF" ∷ codes "z" ∷ [])
+        ≡ true ∷ false ∷ false ∷ [] }
+    ensures listed { map (λ key. list_of key) (Some (codes "do") ∷ None ∷ [])
+        ≡ (codes "do" ∷ []) ∷ [] ∷ [] }
+    ensures told { told_keys (object_of ((codes "wrd", null) ∷ (codes "x", null) ∷ []))
+        ((codes "word", form.Text) ∷ (codes "size", form.Text) ∷ [])
+        ≡ codes "wrd" ∷ [] }
+    ensures there { told_keys (object_of ((codes "wrd", null) ∷ (codes "word", null) ∷ []))
+        ((codes "word", form.Text) ∷ [])
+        ≡ [] }
+    ensures stray { map (is_stray (codes "word" ∷ codes "do" ∷ []) (codes "wrd" ∷ []))
+        (codes "wrd" ∷ codes "x" ∷ codes "do" ∷ [])
+        ≡ false ∷ true ∷ false ∷ [] }
+    ensures plain { map plain_key (replicate 40 65 ∷ replicate 41 65 ∷ codes "a\n" ∷ [])
+        ≡ Some (replicate 40 65) ∷ None ∷ None ∷ [] }
+    ensures near { map (near_name (codes "word" ∷ codes "zf" ∷ codes "note" ∷ []))
+        (codes "Z-F" ∷ codes "wrd" ∷ codes "nothing" ∷ codes "notes" ∷ [])
+        ≡ Some (codes "zf") ∷ Some (codes "word") ∷ None ∷ Some (codes "note") ∷ [] }
+{}
+
+/// Keys that come more than once in an object of the text: each is told once, after all else.
+#[tactic(auto, unfolding(crate::specs::Worked::near_on_literals))]
+pub fn keys_that_come_twice()
+    ensures keys { map (λ written. keys_written (Some written))
+        (written_object
+        ((codes "a", json.null) ∷ (codes "b", json.null) ∷ (codes "a", json.null) ∷ [])
+        ∷ json.null ∷ [])
+        ≡ (codes "a" ∷ codes "b" ∷ codes "a" ∷ []) ∷ [] ∷ [] }
+    ensures no_keys { keys_written None ≡ [] }
+    ensures often { map (how_often (codes "a" ∷ codes "b" ∷ codes "a" ∷ codes "A" ∷ []))
+        (codes "a" ∷ codes "b" ∷ codes "d" ∷ [])
+        ≡ 2 ∷ 1 ∷ 0 ∷ [] }
+    ensures again { keys_again
+        (codes "a" ∷ codes "b" ∷ codes "c" ∷ codes "b" ∷ codes "a" ∷ codes "b" ∷ codes "A" ∷ [])
+        ≡ codes "b" ∷ codes "a" ∷ [] }
+    ensures texts { map twice_text (Some (codes "do") ∷ None ∷ [])
+        ≡ codes "\"do\" comes twice" ∷ codes "a key that is long or not plain comes twice" ∷ [] }
+    ensures step { step_texts (codes "do" ∷ codes "a" ∷ codes "do" ∷ [])
+        (object_of ((codes "a", null) ∷ poll_step))
+        ≡ codes "\"a\" is no key here" ∷ codes "\"do\" comes twice" ∷ [] }
+    ensures no_kind { step_texts (codes "a" ∷ codes "a" ∷ [])
+        (object_of ((codes "a", null) ∷ []))
+        ≡ codes "\"a\" comes twice" ∷ [] }
+    ensures parts { warnings_of_value (Some written_twice)
+        (changed (codes "steps")
+        (array (item (object_of poll_step) (item (object_of poll_step) no_items)))
+        right_document)
+        ≡ (BadDocument, None, codes "\"capacity\" comes twice")
+        ∷ (BadCaps, None, codes "\"slots\" comes twice")
+        ∷ (BadStep 1, Some Poll, codes "\"do\" comes twice") ∷ [] }
+    ensures last { map keys_in_caps
+        (written_object
+        ((codes "caps", json.null)
+        ∷ (codes "caps", written_object ((codes "slots", json.null) ∷ [])) ∷ [])
+        ∷ json.null ∷ [])
+        ≡ (codes "slots" ∷ []) ∷ [] ∷ [] }
+{}
+
+/// Warnings in words, and their lines.
+#[tactic(auto, unfolding(dsa_scenario::specs::Worked::digits_on_literals))]
+pub fn texts_of_warnings()
+    ensures near { stray_text (Some (codes "slot")) (Some (codes "slots"))
+        ≡ codes "\"slot\" is no key here, but \"slots\" is" }
+    ensures alone { stray_text (Some (codes "slot")) None ≡ codes "\"slot\" is no key here" }
+    ensures untold { stray_text None None ≡ codes "a key that is long or not plain is no key here" }
+    ensures line { (reasons : Vec Reason Global)
+        → warning_line (found_at (Some 2) None reasons) NotUtf8
+        ≡ codes "warning: line 2, capacity: the bytes are no UTF-8\n" }
+    ensures each { warned_in BadCaps (Some Poll) (codes "a" ∷ codes "b" ∷ [])
+        ≡ (BadCaps, Some Poll, codes "a") ∷ (BadCaps, Some Poll, codes "b") ∷ [] }
+{}
+
+/// Where a warning is, and the warnings of bytes that are no JSON; they count in a strict check.
+#[tactic(auto, unfolding(serde_json::proofs::OnLiterals::serde_json_on_literals))]
+pub fn places_of_warnings()
+    ensures of_a_step { (finding : Finding)
+        → finding.fault ≡ BadStep 0
+        → IsNowhere finding.place
+        → HasPlace [] document_of_null finding }
+    ensures of_no_step { (finding : Finding)
+        → finding.fault ≡ BadStep 1
+        → HasPlace [] document_of_null finding
+        → ⊥ }
+    ensures no_column { (finding : Finding)
+        → finding.fault ≡ BadStep 0
+        → finding.place.column ≡ Some 1
+        → HasPlace [] document_of_null finding
+        → ⊥ }
+    ensures of_the_caps { (finding : Finding)
+        → finding.fault ≡ BadCaps
+        → finding.place.line ≡ Some 1
+        → HasPlace [] document_of_null finding
+        → ⊥ }
+    ensures no_json { AreWarningsOf (codes "{") [] }
+    ensures one { (finding : Finding) → AreWarningsOf (codes "{") (finding ∷ []) → ⊥ }
+    ensures plain { (warnings : List Finding) → faults_warned false warnings ≡ [] }
+    ensures silent { first_of (faults_warned true []) ≡ None }
+{}

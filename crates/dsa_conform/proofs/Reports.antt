@@ -1,0 +1,153 @@
+-- What is printed has the documented lines.
+use Rattle.std.proofs.Common.{◌≡◌, ◌∙◌, ℕ, suc, List, [], ◌∷◌, ◌++◌, Bool, true, false, Option, Some, None, refl, sym}
+use Rattle.std.proofs.Common.{subst, ap}
+use Rattle.std.proofs.Common.{append_assoc, append-nil, length, take, flat_map, codes, inl, inr}
+use Rattle.std.specs.{Fmt.{decimal}, Prelude.{replicate}}
+use Rattle.serde_json.specs.Data.{Data}
+use Rattle.dsa_base.specs.Lists.{In}
+use Rattle.dsa_regs.specs.declared.Caps.{Caps}
+use Rattle.dsa_scenario.specs.declared.{actions.Action.{Action}, run.Record.{Record}}
+use Rattle.dsa_scenario.specs.declared.faults.ScenarioFault.{ScenarioFault}
+use Rattle.dsa_scenario.specs.declared.faults.ScenarioFault.TheVariants as fault
+use Rattle.dsa_scenario.specs.{Lines.{record_text}, Run.{event_of}, Steps.{standing}}
+use Rattle.dsa_event_text.specs.Text.{count_text}
+use Rattle.dsa_explain_lines.specs.{Lines.{asked_words, is_taken, shown}, Parts.{part_of}}
+use Rattle.dsa_conform.specs.Quoted.{seen_text}
+use Rattle.dsa_conform.specs.Seen.{Seen}
+use Rattle.dsa_conform.specs.Lines.{conforms_text, flag_text, seen_words, seen_line, seen_count, asked_step_line}
+use Rattle.dsa_conform.specs.Lines.{allowed_line, difference_text}
+use Rattle.dsa_conform.specs.Run.{IsConforming, IsDifference, IsAllowedLine, IsVerdict, IsConformance}
+use Rattle.dsa_conform.specs.Forms.{IsLineWith, AreLinesWith, words_of_difference, IsReport}
+use Rattle.dsa_conform.proofs.Printable.{Shown, joined, chosen, parts}
+use Rattle.dsa_conform.proofs.{PrintableAnswers.{asked, answer_words}, PrintableParts.{reason}}
+use Rattle.dsa_conform.proofs.PrintableTexts.{text_shown}
+
+-- ---- one line
+
+flag : (b : Bool) → Shown (flag_text b)
+flag true = refl
+flag false = refl
+
+words : (answer : Option (List ℕ)) (zf : Option Bool) → Shown (seen_words answer zf)
+words (Some text) (Some zf) =
+    joined (seen_text text ++ codes ", ") (flag_text zf) (joined (seen_text text) (codes ", ") (text_shown text) refl)
+    (flag zf)
+words (Some text) None = text_shown text
+words None (Some zf) = flag zf
+words None None = refl
+
+seen_is_line : (seen : Seen) → IsLineWith (codes "seen: ") (seen_line seen)
+seen_is_line seen = record {
+  rest = seen_words seen.answer seen.zf;
+  is = refl;
+  printable = words seen.answer seen.zf;
+}
+
+step_is_line : (n : ℕ) (entry : Record) → IsLineWith (codes "step ") (asked_step_line n entry)
+step_is_line n entry = record {
+  rest = decimal n ++ codes ": " ++ asked_words entry;
+  is = refl;
+  printable = search (parts, asked) depth 16;
+}
+
+conforms_is_line : (steps seen : ℕ) → IsLineWith (codes "conforms: ") (conforms_text steps seen)
+conforms_is_line steps seen =
+    let counts : List ℕ = count_text [] steps (codes "step") (codes "steps")
+    ++ count_text (codes ", ") seen (codes "answer") (codes "answers") in
+    let printed : Shown (counts ++ codes " seen") = search parts depth 24 in
+    record {
+      rest = counts ++ codes " seen";
+      is = ap (λ l. codes "conforms: " ++ l) (sym (append_assoc counts (codes " seen") (codes "\n")));
+      printable = printed;
+    }
+
+allowed_is_line : (told : List ℕ) (entry : Record) → Shown told → Shown (record_text entry)
+    → IsLineWith (codes "allowed: ") (allowed_line told entry)
+allowed_is_line told entry p q = record {
+  rest = record_text entry ++ shown told entry;
+  is = ap (λ l. codes "allowed: " ++ l) (sym (append_assoc (record_text entry) (shown told entry) (codes "\n")));
+  printable = joined (record_text entry) (shown told entry) q (chosen (is_taken entry) [] told refl p);
+}
+
+-- ---- all lines
+
+lines_allowed : (lines : List (Record × List ℕ))
+    → ((line : Record × List ℕ) → In line lines → IsLineWith (codes "allowed: ") line.1)
+    → AreLinesWith (replicate (length lines) (codes "allowed: ")) (flat_map (λ l. l.1) lines)
+lines_allowed [] each = refl
+lines_allowed (line ∷ lines) each =
+    (line.1, flat_map (λ l. l.1) lines, each line (inl refl), lines_allowed lines (λ l i. each l (inr i)), refl)
+
+lines_of_difference : (n : ℕ) (seen : Seen) (lines : List (Record × List ℕ)) (text : List ℕ)
+    → ((line : Record × List ℕ) → In line lines → IsLineWith (codes "allowed: ") line.1)
+    → (line : Record × List ℕ) × In line lines → text ≡ difference_text n seen lines
+    → (allowed : ℕ) × AreLinesWith (words_of_difference (suc allowed)) text
+lines_of_difference n seen [] text each any is = absurd any.1
+lines_of_difference n seen (first ∷ lines) text each any is = (
+  length lines,
+  (
+    asked_step_line n first.0,
+    seen_line seen ++ flat_map (λ l. l.1) (first ∷ lines),
+    step_is_line n first.0,
+    (
+      seen_line seen,
+      flat_map (λ l. l.1) (first ∷ lines),
+      seen_is_line seen,
+      lines_allowed (first ∷ lines) each,
+      refl,
+    ),
+    is ∙ append_assoc (asked_step_line n first.0) (seen_line seen) (flat_map (λ l. l.1) (first ∷ lines)),
+  ),
+)
+
+line_allowed : (caps : Caps) (capacity : ℕ) (before : List (Action × Seen)) (action : Action) (entry : Record)
+    (line : List ℕ) → IsAllowedLine caps capacity before action entry line → IsLineWith (codes "allowed: ") line
+line_allowed caps capacity before action entry line h =
+    let now = standing caps capacity h.records in
+    let asked = event_of h.records action in
+    subst (IsLineWith (codes "allowed: ")) (sym h.told)
+    (allowed_is_line (part_of now asked) entry (reason now asked)
+    (answer_words now h.allowed.after entry h.allowed.leads))
+
+differing_report : (caps : Caps) (capacity : ℕ) (before : List (Action × Seen)) (here : Action × Seen) (n : ℕ)
+    (text : List ℕ) → IsDifference caps capacity before here n text
+    → (allowed : ℕ) × AreLinesWith (words_of_difference (suc allowed)) text
+differing_report caps capacity before here n text h =
+    lines_of_difference n here.1 h.lines text
+    (λ line i. line_allowed caps capacity before here.0 line.0 line.1 (h.told.each line i)) h.any h.is
+
+conforming_report : (caps : Caps) (capacity : ℕ) (steps : List Data) (text : List ℕ)
+    → IsConforming caps capacity steps text → AreLinesWith (codes "conforms: " ∷ []) text
+conforming_report caps capacity steps text h =
+    let n = length h.observed in
+    let seen = seen_count h.observed in
+    (conforms_text n seen, [], conforms_is_line n seen, refl, h.told ∙ sym (append-nil (conforms_text n seen)))
+
+-- of a fault that no verdict has there is no report
+judged : (caps : Caps) (capacity : ℕ) (steps : List Data) (f : Option ScenarioFault) (text : List ℕ)
+    → IsVerdict caps capacity steps f text → IsReport f text
+judged caps capacity steps None text h = conforming_report caps capacity steps text h
+judged caps capacity steps (Some (fault.Differs i)) text h =
+    differing_report caps capacity (take i h.observed) h.here i text h.differs
+judged caps capacity steps (Some fault.Read) text h = absurd h
+judged caps capacity steps (Some fault.TooLong) text h = absurd h
+judged caps capacity steps (Some fault.NotJson) text h = absurd h
+judged caps capacity steps (Some fault.BadDocument) text h = absurd h
+judged caps capacity steps (Some (fault.BadStep i)) text h = absurd h
+judged caps capacity steps (Some fault.BadCaps) text h = absurd h
+judged caps capacity steps (Some fault.BadCapacity) text h = absurd h
+judged caps capacity steps (Some fault.Write) text h = absurd h
+judged caps capacity steps (Some fault.OutOfMemory) text h = absurd h
+
+pub report : (bytes : List ℕ) (f : Option ScenarioFault) (text : List ℕ) → IsConformance bytes f text → IsReport f text
+report bytes (Some (fault.BadStep i)) text h = h.1
+report bytes None text h = judged h.caps h.capacity h.steps None text h.verdict
+report bytes (Some (fault.Differs i)) text h = judged h.caps h.capacity h.steps (Some (fault.Differs i)) text h.verdict
+report bytes (Some fault.Read) text h = judged h.caps h.capacity h.steps (Some fault.Read) text h.verdict
+report bytes (Some fault.TooLong) text h = judged h.caps h.capacity h.steps (Some fault.TooLong) text h.verdict
+report bytes (Some fault.NotJson) text h = judged h.caps h.capacity h.steps (Some fault.NotJson) text h.verdict
+report bytes (Some fault.BadDocument) text h = judged h.caps h.capacity h.steps (Some fault.BadDocument) text h.verdict
+report bytes (Some fault.BadCaps) text h = judged h.caps h.capacity h.steps (Some fault.BadCaps) text h.verdict
+report bytes (Some fault.BadCapacity) text h = judged h.caps h.capacity h.steps (Some fault.BadCapacity) text h.verdict
+report bytes (Some fault.Write) text h = judged h.caps h.capacity h.steps (Some fault.Write) text h.verdict
+report bytes (Some fault.OutOfMemory) text h = judged h.caps h.capacity h.steps (Some fault.OutOfMemory) text h.verdict

@@ -1,0 +1,19 @@
+use Rattle.dsa_explain_lines.proofs.laws.answers_have_reasons.Goals as goal
+use Rattle.dsa_laws.proofs.Histories.{replay-well_formed}
+use Rattle.dsa_explain_lines.proofs.Reasons.{begins, follows-told, is-shown, none-offered}
+use Rattle.dsa_explain_lines.specs.Parts.{part_of}
+use Rattle.std.specs.Prelude.{Ok}
+
+pub returns-clause-steps : goal.returns-clause-steps
+returns-clause-steps c now step reached may fails =
+    let well = replay-well_formed now.caps now.history now.state reached in
+    is-shown step.reply (part_of now (Ok step.event)) fails
+    (follows-told now.state well.cells.once c.submissions_follow_reasons.ensures c.writes_follow_reasons.ensures.queue
+    c.writes_follow_reasons.ensures.group c.commands_follow_reasons.ensures c.polls_follow_reasons.ensures
+    c.waits_follow_reasons.ensures.told now.caps now.capacity now.history step reached may fails)
+
+pub returns-clause-words : goal.returns-clause-words
+returns-clause-words c now fault = begins _ _
+
+pub returns-clause-no_queue : goal.returns-clause-no_queue
+returns-clause-no_queue c = none-offered
