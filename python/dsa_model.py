@@ -305,29 +305,32 @@ _STRUCTS: Dict[str, Any] = {
 }
 
 # The calls of the header, by what they give. To a struct a pointer is passed; a call writes what
-# has > before its type.
+# has > before its type. A step takes a handle that it may change, a read one that it does not.
 _HEADER = {
     "dsa_answer": """enqcmd(handle client:H queue:H portal:I pasid:I descriptor:dsa_descriptor)
         movdir64b(handle client:H queue:H portal:I descriptor:dsa_descriptor)
-        dispatch(handle engine:H) fetch(handle engine:H descriptor:dsa_descriptor)
+        dispatch(handle engine:H) dispatch_from(handle engine:H queue:H)
+        fetch(handle engine:H descriptor:dsa_descriptor)
         start(handle engine:H) finish(handle engine:H cell:I name:I outcome:I)
         command(handle word:I) poll(handle) write_queue(handle queue:H config:dsa_queue)
-        write_group(handle group:H config:dsa_group) clear_error(handle) noted(handle)
-        history_answer(handle position:Q)""",
-    "dsa_ending": "fate_at(handle position:Q) fate_of(handle name:I)",
-    "Q": """capacity(handle) occupancy(handle queue:H) used(handle group:H) held(handle)
-        next_name(handle) active(handle) awaited(handle) history_length(handle)
-        fates_length(handle) phase(handle) queue_phase(handle queue:H)
-        in_progress(handle engine:H) members(handle engine:H) size(caps:dsa_caps capacity:Q)""",
-    "I": """open(handle caps:dsa_caps capacity:Q) holds(handle cell:I name:I)
-        history_is_full(handle) queue_config(handle queue:H config:>dsa_queue)
-        group_config(handle group:H config:>dsa_group)
-        waiting_at(handle queue:H place:Q entry:>dsa_entry)
-        in_progress_at(handle engine:H place:Q entry:>dsa_entry)
-        member_at(handle engine:H place:Q entry:>dsa_entry)
-        batch(handle engine:H batch:>dsa_batch) history_event(handle position:Q event:>dsa_event)
-        history_queue_config(handle position:Q config:>dsa_queue)
-        history_group_config(handle position:Q config:>dsa_group)
+        write_group(handle group:H config:dsa_group) clear_error(handle) noted(read)
+        history_answer(read position:Q)""",
+    "dsa_ending": "fate_at(read position:Q) fate_of(read name:I)",
+    "Q": """capacity(read) occupancy(read queue:H) used(read group:H) held(read)
+        next_name(read) active(read) awaited(read) history_length(read)
+        fates_length(read) phase(read) queue_phase(read queue:H)
+        in_progress(read engine:H) members(read engine:H) size(caps:dsa_caps capacity:Q)""",
+    "I": """open(handle caps:dsa_caps capacity:Q) cell_count(caps:dsa_caps)
+        list_count(caps:dsa_caps) caps_of(read caps:>dsa_caps)
+        entry_in(read cell:I entry:>dsa_entry) holds(read cell:I name:I)
+        history_is_full(read) queue_config(read queue:H config:>dsa_queue)
+        group_config(read group:H config:>dsa_group)
+        waiting_at(read queue:H place:Q entry:>dsa_entry)
+        in_progress_at(read engine:H place:Q entry:>dsa_entry)
+        member_at(read engine:H place:Q entry:>dsa_entry)
+        batch(read engine:H batch:>dsa_batch) history_event(read position:Q event:>dsa_event)
+        history_queue_config(read position:Q config:>dsa_queue)
+        history_group_config(read position:Q config:>dsa_group)
         check(descriptor:dsa_descriptor limits:dsa_limits member:I)
         need(descriptor:dsa_descriptor limits:dsa_limits member:I)
         status(descriptor:dsa_descriptor limits:dsa_limits member:I outcome:I) version()""",
@@ -337,7 +340,8 @@ _CALLS: Dict[str, Tuple[str, List[Tuple[str, str]]]] = {
     f"dsa_{name}": (result, re.findall(r"(\w+):(\S+)", parameters))
     for result, calls in _HEADER.items()
     for name, parameters in re.findall(r"(\w+)\((.*?)\)",
-                                       calls.replace("handle", "handle:>dsa_model"))
+                                       calls.replace("(handle", "(handle:>dsa_model")
+                                       .replace("(read", "(handle:dsa_model"))
 }
 _NONE = (1 << 64) - 1  # DSA_NONE
 _NO_PARENT = (1 << 32) - 1
@@ -413,7 +417,7 @@ def _passed(name: str, kind: str, value: Any) -> Any:
     """An argument as ctypes takes it: a number that fits, or a pointer to a struct."""
     if kind in _TYPES:
         return _bits(name, _TYPES[kind][0], value)
-    if kind.startswith(">"):
+    if kind.startswith(">") or kind == "dsa_model":
         return ctypes.byref(value)
     if kind == "dsa_descriptor":
         if not isinstance(value, (bytes, bytearray, memoryview)):
@@ -489,6 +493,16 @@ def image(descriptor: Bytes, pasid: int) -> bytes:
 def size(caps: Caps, capacity: int) -> int:
     """How many bytes a device takes; 0 where these capabilities or this capacity are refused."""
     return int(_call("dsa_size", caps, capacity))
+
+
+def cell_count(caps: Caps) -> int:
+    """How many cells a device has, numbered from 0; 0 where these capabilities are refused."""
+    return int(_call("dsa_cell_count", caps))
+
+
+def list_count(caps: Caps) -> int:
+    """How many lists a device has; 0 where these capabilities are refused."""
+    return int(_call("dsa_list_count", caps))
 
 
 def version() -> int:
@@ -579,6 +593,10 @@ class Device:
     def dispatch(self, engine: int) -> Answer:
         """An engine takes the front of a queue of its group: TAKEN, IDLE."""
         return self._answer("dsa_dispatch", engine)
+
+    def dispatch_from(self, engine: int, queue: int) -> Answer:
+        """An engine takes the front of this queue: TAKEN, IDLE."""
+        return self._answer("dsa_dispatch_from", engine, queue)
 
     def fetch(self, engine: int, descriptor: Bytes) -> Answer:
         """An engine hands in the next member of its batch: FETCHED, NO_BATCH, ALL_FETCHED."""
@@ -707,6 +725,10 @@ class Device:
         number = self._number("dsa_queue_phase", queue)
         return None if number is None else Phase(number)
 
+    def caps_of(self) -> Optional[Caps]:
+        """What the device has, as it was opened."""
+        return self._written(Caps, "dsa_caps_of")
+
     def queue_config(self, queue: int) -> Optional[Queue]:
         """The configuration of a queue; None: no such queue."""
         return self._written(Queue, "dsa_queue_config", queue)
@@ -736,6 +758,10 @@ class Device:
     def member_at(self, engine: int, place: int) -> Optional[Entry]:
         """A member of the engine's batch that has not ended; None: no such engine or place."""
         return self._written(Entry, "dsa_member_at", engine, place)
+
+    def entry_in(self, cell: int) -> Optional[Entry]:
+        """The entry that the cell holds; None: it holds none."""
+        return self._written(Entry, "dsa_entry_in", cell)
 
     def batch(self, engine: int) -> Optional[Batch]:
         """The batch that the engine works on; None: none, or no such engine."""

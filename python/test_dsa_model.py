@@ -112,6 +112,24 @@ class Steps(unittest.TestCase):
             self.assertEqual((done.kind, done.status, done.more), (Kind.DONE, Status.SUCCESS, 1))
             self.assertEqual(device.fates(), [(EndingKind.COMPLETED, 0, None, 1)])
 
+    def test_lockstep(self) -> None:
+        """An engine takes from the queue that is named, and a cell tells its entry."""
+        with enabled() as device:
+            accepted = device.enqcmd(0, 0, Portal.UNLIMITED, 5, NOTHING)
+            self.assertEqual(device.dispatch_from(0, 1), (Kind.IDLE, 0, 0, 0))
+            entry = device.entry_in(accepted.cell)
+            self.assertEqual(entry, device.waiting_at(0, 0))
+            taken = device.dispatch_from(0, 0)
+            self.assertEqual(taken, (Kind.TAKEN, accepted.name, accepted.cell, 0))
+            self.assertEqual(device.entry_in(taken.cell), device.in_progress_at(0, 0))
+            caps = device.caps_of()
+            self.assertEqual((caps, dsa.list_count(CAPS)), (CAPS, CAPS.queues + 2 * CAPS.engines))
+            self.assertIsNone(device.entry_in(dsa.cell_count(CAPS)))
+            held = filter(None, map(device.entry_in, range(dsa.cell_count(CAPS))))
+            self.assertEqual(list(held), [device.in_progress_at(0, 0)])
+        for refused in CAPS._replace(slots=17), dsa.Caps(*[0] * 8):
+            self.assertEqual((dsa.cell_count(refused), dsa.list_count(refused)), (0, 0))
+
     def test_drain_waits(self) -> None:
         """Drain All waits for three entries (c/tests/every_answer.c); 17 is Busy."""
         with enabled() as device:
@@ -520,6 +538,8 @@ class Descriptors(unittest.TestCase):
                                            ("member", False), ("outcome", 0)])
         check_arguments(self, dsa.image, [("descriptor", NOTHING), ("pasid", 0)])
         check_arguments(self, dsa.size, [("caps", CAPS), ("capacity", 10)])
+        for call in (dsa.cell_count, dsa.list_count):
+            check_arguments(self, call, [("caps", CAPS)])
 
 
 # how many bits the header gives each parameter and each field that goes in
@@ -544,14 +564,15 @@ Arguments = List[Tuple[str, Any]]
 STEPS: Dict[str, Arguments] = {
     "enqcmd": [("client", 0), QUEUE, ("portal", 0), ("pasid", 5), DESCRIPTOR],
     "movdir64b": [("client", 0), QUEUE, ("portal", 0), DESCRIPTOR],
-    "dispatch": [ENGINE], "fetch": [ENGINE, DESCRIPTOR], "start": [ENGINE],
+    "dispatch": [ENGINE], "dispatch_from": [ENGINE, QUEUE], "fetch": [ENGINE, DESCRIPTOR],
+    "start": [ENGINE],
     "finish": [ENGINE, ("cell", 0), ("name", 0), ("outcome", 0)], "command": [("word", 0)],
     "poll": [], "write_queue": [QUEUE, ("config", SHARED)],
     "write_group": [("group", 0), ("config", GROUP)], "clear_error": [],
 }
 READS: Dict[str, Arguments] = {
-    **{name: [] for name in ("capacity", "held", "next_name", "active", "awaited", "noted",
-                             "phase", "history_length", "history_is_full", "history",
+    **{name: [] for name in ("caps_of", "capacity", "held", "next_name", "active", "awaited",
+                             "noted", "phase", "history_length", "history_is_full", "history",
                              "fates_length", "fates")},
     "occupancy": [QUEUE], "used": [("group", 0)], "queue_phase": [QUEUE], "queue_config": [QUEUE],
     "group_config": [("group", 0)], "in_progress": [ENGINE], "members": [ENGINE],
@@ -559,6 +580,7 @@ READS: Dict[str, Arguments] = {
     "member_at": [ENGINE, PLACE], "history_answer": [POSITION], "history_event": [POSITION],
     "history_queue_config": [POSITION], "history_group_config": [POSITION],
     "fate_at": [POSITION], "fate_of": [("name", 0)], "holds": [("cell", 0), ("name", 0)],
+    "entry_in": [("cell", 0)],
 }
 
 

@@ -31,8 +31,14 @@ ENUMS: Dict[str, Tuple[Any, str]] = {
     "dsa_command_number": (dsa.Command, "DSA_"), "dsa_kind": (dsa.Kind, "DSA_"),
     "dsa_cause": (dsa.Cause, "DSA_"), "dsa_ending_kind": (dsa.EndingKind, "DSA_"),
     "dsa_phase_number": (dsa.Phase, "DSA_"), "dsa_event_kind": (dsa.EventKind, "DSA_EVENT_"),
-    "dsa_open_result": (dsa.OpenResult, "DSA_"),
+    "dsa_open_result": (dsa.OpenResult, "DSA_"), "dsa_fault": (dsa.Fault, "DSA_FAULT_"),
+    "dsa_status": (dsa.Status, "DSA_STATUS_"), "dsa_operation": (dsa.Operation, "DSA_OP_"),
 }
+
+
+def constant(prefix: str, member: enum.IntEnum) -> str:
+    """What the header calls a member: SizesTooLarge as SIZES_TOO_LARGE, with the prefix."""
+    return prefix + re.sub(r"(?<=[a-z])(?=[A-Z])", "_", member.name).upper()
 
 
 def header_text() -> str:
@@ -108,8 +114,9 @@ class Header(unittest.TestCase):
         statements, expected = [], {}
         for kind, prefix in ENUMS.values():
             for member in kind:
-                statements.append(number(prefix + member.name, prefix + member.name))
-                expected[prefix + member.name] = str(member.value)
+                name = constant(prefix, member)
+                statements.append(number(name, name))
+                expected[name] = str(member.value)
         self.assertEqual(printed(statements), expected)
         self.assertEqual(len(expected), sum(len(kind) for kind, _ in ENUMS.values()))
 
@@ -118,7 +125,7 @@ class Header(unittest.TestCase):
         for name, body in re.findall(r"^enum (\w+) \{(.*?)\};", header_text(),
                                      re.DOTALL | re.MULTILINE):
             found[name] = set(re.findall(r"\bDSA_\w+", body))
-        self.assertEqual(found, {name: {prefix + member.name for member in kind}
+        self.assertEqual(found, {name: {constant(prefix, member) for member in kind}
                                  for name, (kind, prefix) in ENUMS.items()})
 
     def test_calls(self) -> None:
@@ -130,7 +137,7 @@ class Header(unittest.TestCase):
                            f' "{name}");')
         with tempfile.TemporaryDirectory() as folder:
             compile_c("\n".join(asserts), folder, "-fsyntax-only")
-        declared = re.findall(r"^(?:\w+ )+(dsa_\w+)\(", header_text(), re.MULTILINE)
+        declared = re.findall(r"^(?:\w+ )+(dsa_\w+)\([^()]*\);", header_text(), re.MULTILINE)
         self.assertEqual(sorted(declared), sorted(dsa._CALLS))
 
     @staticmethod
@@ -149,10 +156,11 @@ class Header(unittest.TestCase):
 
     def test_names_as_text(self) -> None:
         statements = [f'printf("%s %u\\t%s\\n", "{of}", {n}u, dsa_{of}_name({n}u));'
-                      for of in ("kind", "fault", "command", "status") for n in range(40)]
+                      for of in ("kind", "fault", "command", "status", "operation")
+                      for n in range(40)]
         found = printed(statements)
         for of, kind in (("kind", dsa.Kind), ("fault", dsa.Fault), ("command", dsa.Command),
-                         ("status", dsa.Status)):
+                         ("status", dsa.Status), ("operation", dsa.Operation)):
             for n in range(40):
                 with self.subTest(of, number=n):
                     self.assertEqual(found[f"{of} {n}"], self.text_of(of, kind, n))
@@ -166,8 +174,8 @@ class Header(unittest.TestCase):
         name = members[n].name
         if of == "command":
             return name.replace("_", " ").title().replace("Wq", "WQ").replace("Pasid", "PASID")
-        if of == "status":
-            return f"DSA_COMP_{name}"
+        if of in ("status", "operation"):
+            return {"status": "DSA_COMP_", "operation": "DSA_OPCODE_"}[of] + name
         return name if of == "fault" else name.lower().replace("_", " ")
 
     def test_macros(self) -> None:

@@ -7,7 +7,10 @@ newest=3
 kept=${XDG_CACHE_HOME:-${HOME:-$top/out}/.cache}/bizhgora/kept
 
 # What the library for C is made from, beside the sources of its crates.
-library_files=(tools/build-proved tools/link-library tools/version c/libdsa_model.map)
+library_files=(
+    tools/build-proved tools/link-library tools/rust-declarations tools/version
+    c/libdsa_model.map c/library.c
+)
 
 # The toolchain's folder, found without starting the toolchain, which takes half a second.
 toolchain_folder() {
@@ -82,7 +85,7 @@ sum_of_sources() { # FOLDER CRATE PART...
 # The sum of what the library for C is made from.
 sum_of_library() { # FOLDER
     local sources
-    sources=$(sum_of_sources "$1" dsa_c src specs proofs dsa_model.h) || return
+    sources=$(sum_of_sources "$1" dsa_c src specs proofs dsa_model.h dsa_model.hpp) || return
     (
         set -o pipefail
         cd "$1" || exit

@@ -79,6 +79,20 @@ _Static_assert(DSA_VERSION / 1000000 == DSA_VERSION_MAJOR, "first number");
 _Static_assert(DSA_VERSION / 1000 % 1000 == DSA_VERSION_MINOR, "second number");
 _Static_assert(DSA_VERSION % 1000 == DSA_VERSION_PATCH, "third number");
 
+/* Each capability comes back as it went in, and no two of them are equal. */
+static void capabilities(struct dsa_model *other)
+{
+	const struct dsa_caps wanted = { 5, 4, 3, 99, 77, 2, 6, 20 };
+	struct dsa_caps found = small_caps;
+	struct dsa_model device = DSA_CLOSED;
+	CHECK(dsa_caps_of(&device, &found) == 0 && memcmp(&found, &small_caps, sizeof found) == 0);
+	CHECK(dsa_open(&device, &wanted, 10) == DSA_OPENED && dsa_caps_of(&device, &found) == 1);
+	CHECK(memcmp(&found, &wanted, sizeof found) == 0);
+	CHECK(dsa_caps_of(other, &found) == 1 && memcmp(&found, &small_caps, sizeof found) == 0);
+	CHECK(dsa_cell_count(&wanted) == 99 + 3 * (2 + 64) && dsa_list_count(&wanted) == 5 + 2 * 3);
+	dsa_close(&device);
+}
+
 /* Each field that goes in is told apart from its neighbours by what the device does with it. */
 int main(void)
 {
@@ -97,9 +111,12 @@ int main(void)
 		{ 2, 1, 1, 16, 256, 2, 3, 20 }, { 2, 1, 1, 16, 16, 17, 3, 20 }, { 2, 1, 1, 16, 16, 2, 11, 20 }, { 2, 1, 1, 16, 16, 2, 3, 32 }
 	};
 	struct dsa_model device = DSA_CLOSED;
-	for (size_t i = 0; i < sizeof caps / sizeof caps[0]; i++)
+	for (size_t i = 0; i < sizeof caps / sizeof caps[0]; i++) {
 		CHECK(dsa_open(&device, &caps[i], 10) == DSA_BAD_CAPS);
+		CHECK(dsa_cell_count(&caps[i]) == 0 && dsa_list_count(&caps[i]) == 0);
+	}
 	CHECK(dsa_open(&device, &small_caps, 10) == DSA_OPENED);
+	capabilities(&device);
 
 	/* size, threshold, priority and both shifts of a queue by the fault of enabling it; numbers of Fault in docs/MODEL.md */
 	const struct { struct dsa_queue queue; uint32_t fault; } queues[] = {

@@ -1,15 +1,21 @@
-/* dsa_model.h: a proved model of the shared part of the Intel Data Streaming Accelerator, for C and C++.
+/* dsa_model.h: a proved model of the shared part of the Intel Data Streaming Accelerator, for C and
+ * C++.
  *
- * A program steps a device in place of the hardware: it writes descriptors to portals, takes the part of the engines, and issues
- * commands. Each step is one call, and its answer says what the device did. What a call does to the device, and which answer it
- * gives, is proved; docs/C.md says what is proved of each call and what is trusted.
+ * A program steps a device in place of the hardware: it writes descriptors to portals, takes the part
+ * of the engines, and issues commands. Each step is one call, and its answer says what the device did.
+ * What a call does to the device, and which answer it gives, is proved; docs/C.md says what is proved
+ * of each call and what is trusted.
  *
  * What the caller keeps to, since nothing checks it:
- *   - No pointer is null. A handle starts as DSA_CLOSED, and after that only these calls write to it. It is never copied.
- *   - Calls on one handle come one at a time: threads that share one take a lock around each call. Different handles are independent.
- *   - dsa_open and dsa_close take and free memory: they are not for signal handlers, nor for the child of a fork of a process with
- *     threads. The other calls take no memory, so a handler may make them, unless it interrupts a call on the same handle.
- * All numbers may be wrong: a queue, group or engine that the device does not have, a portal, an outcome, a word. They are answered.
+ *   - No pointer is null, but that of dsa_close may be. Only these calls write to a handle; struct
+ *     dsa_model says where it is closed, and how it is moved.
+ *   - Calls on one handle come one at a time, reads too: threads that share one take a lock around
+ *     each call. Different handles are independent.
+ *   - dsa_open and dsa_close take and free memory: they are not for signal handlers, nor for the child
+ *     of a fork of a process with threads. The other calls take no memory, so a handler may make them,
+ *     unless it interrupts a call on the same handle.
+ * All numbers may be wrong: a queue, group or engine that the device does not have, a portal, an
+ * outcome, a word. They are answered.
  *
  * Link with libdsa_model.a or libdsa_model.so, and the C library alone. */
 #ifndef DSA_MODEL_H
@@ -30,7 +36,13 @@ extern "C" {
 #define DSA_VERSION 2000u
 #define DSA_VERSION_TEXT "0.2.0"
 
-/* A device, or none. Opaque. */
+/* A handle: a device, or none. Its fields are the library's own.
+ *   - It is closed, which means that it has no device, where all its bytes are zero: by DSA_CLOSED,
+ *     by dsa_closed(), or in memory that was cleared.
+ *   - It may be moved: its 16 bytes are copied to another place, as by an assignment or a return, and
+ *     the device goes with them. The bytes at the old place are dead then. No call may take them,
+ *     not even dsa_close, until dsa_closed() is written there. So a handle is never used at two
+ *     places, and a device is closed once. */
 struct dsa_model {
 	void *at;
 	bool holds;
@@ -84,8 +96,21 @@ struct dsa_limits {
 enum dsa_portal { DSA_LIMITED = 0, DSA_UNLIMITED = 1 };
 enum dsa_outcome { DSA_SUCCESS = 0, DSA_PAGE_FAULT = 1 };
 
+/* The operation of a descriptor, its byte 7. Other codes are not supported: their status is
+ * DSA_STATUS_BAD_OPCODE. */
+enum dsa_operation {
+	DSA_OP_NOOP = 0x00, DSA_OP_BATCH = 0x01, DSA_OP_DRAIN = 0x02, DSA_OP_MEMMOVE = 0x03,
+	DSA_OP_MEMFILL = 0x04, DSA_OP_COMPARE = 0x05
+};
+
 /* The word of a command, to be written by dsa_command: its number and an operand of 20 bits. */
-#define DSA_COMMAND(number, operand) (((uint32_t)(number) << 20) | ((uint32_t)(operand) & 0xfffffu))
+#ifdef __cplusplus
+#define DSA_COMMAND(number, operand) \
+	((static_cast<uint32_t>(number) << 20) | (static_cast<uint32_t>(operand) & 0xfffffu))
+#else
+#define DSA_COMMAND(number, operand) \
+	(((uint32_t)(number) << 20) | ((uint32_t)(operand) & 0xfffffu))
+#endif
 enum dsa_command_number {
 	DSA_ENABLE_DEVICE = 1, DSA_DISABLE_DEVICE, DSA_DRAIN_ALL, DSA_ABORT_ALL, DSA_RESET_DEVICE,
 	DSA_ENABLE_WQ, DSA_DISABLE_WQ, DSA_DRAIN_WQ, DSA_ABORT_WQ, DSA_RESET_WQ, DSA_DRAIN_PASID, DSA_ABORT_PASID
@@ -99,7 +124,7 @@ enum dsa_kind {
 	DSA_RETRY = 2,        /* more: enum dsa_cause; ENQCMD is to come again (zero flag set) */
 	DSA_DROPPED = 3,      /* more: enum dsa_cause; MOVDIR64B wrote what no queue took */
 	DSA_TAKEN = 4,        /* name, cell: the entry runs now; more: its queue */
-	DSA_IDLE = 5,         /* no queue has an entry that the engine may take */
+	DSA_IDLE = 5,         /* no queue, or not this one, has an entry that the engine may take */
 	DSA_FETCHED = 6,      /* name, cell: the member stands last */
 	DSA_NO_BATCH = 7,
 	DSA_ALL_FETCHED = 8,
@@ -108,12 +133,12 @@ enum dsa_kind {
 	DSA_NO_BUFFERS = 11,
 	DSA_ABANDONED = 12,   /* more: how many members ended behind a fence */
 	DSA_NOTHING = 13,     /* no member, no command, no error, no such step */
-	DSA_DONE = 14,        /* more: the completion status */
+	DSA_DONE = 14,        /* more: the completion status, enum dsa_status */
 	DSA_NOT_READY = 15,   /* a batch whose members have not all ended, or a Drain while what it waits for is held */
 	DSA_GONE = 16,        /* no running entry of the engine has that cell and name */
 	DSA_ENDED = 17,       /* more: how many entries were aborted; the command is over */
 	DSA_ACTIVE = 18,      /* the command waits */
-	DSA_REFUSED = 19,     /* more: number of the fault; nothing changed */
+	DSA_REFUSED = 19,     /* more: enum dsa_fault; nothing changed */
 	DSA_FINISHED = 20,    /* the command that waited is over */
 	DSA_WRITTEN = 21,
 	DSA_CLEARED = 22,     /* name: the queue; cell: 1 if more were dropped since, else 0; more: enum dsa_cause */
@@ -121,6 +146,26 @@ enum dsa_kind {
 	DSA_BAD_ARGUMENT = 24 /* a portal, an outcome or a 0-or-1 that is neither; nothing changed */
 };
 enum dsa_cause { DSA_AT_LIMIT = 1, DSA_NOT_ENABLED = 2, DSA_WRONG_KIND = 3 };
+
+/* Why a command or a write of a configuration was refused; docs/MODEL.md, "Faults". */
+enum dsa_fault {
+	DSA_FAULT_SIZES_TOO_LARGE = 1, DSA_FAULT_TWO_GROUPS = 2, DSA_FAULT_RESERVED_TOO_MANY = 3,
+	DSA_FAULT_ALLOWED_OUT_OF_RANGE = 4, DSA_FAULT_GROUP_WITHOUT_ENGINE = 5,
+	DSA_FAULT_GROUP_WITHOUT_QUEUE = 6, DSA_FAULT_SIZE_ZERO = 7, DSA_FAULT_PRIORITY_ZERO = 8,
+	DSA_FAULT_THRESHOLD_ZERO = 9, DSA_FAULT_THRESHOLD_ABOVE_SIZE = 10,
+	DSA_FAULT_BATCH_TOO_LARGE = 11, DSA_FAULT_NO_GROUP = 12, DSA_FAULT_BAD_COMMAND = 13,
+	DSA_FAULT_BAD_QUEUE = 14, DSA_FAULT_LOCKED = 15, DSA_FAULT_WRONG_STATE = 16,
+	DSA_FAULT_BUSY = 17, DSA_FAULT_PRIORITY_TOO_LARGE = 18, DSA_FAULT_TRANSFER_TOO_LARGE = 19,
+	DSA_FAULT_BAD_INDEX = 20
+};
+
+/* The completion status of an entry, by its name in linux/idxd.h without DSA_COMP_. NONE is the
+ * status of no entry: dsa_check gives it where no check fails. */
+enum dsa_status {
+	DSA_STATUS_NONE = 0x00, DSA_STATUS_SUCCESS = 0x01, DSA_STATUS_PAGE_FAULT_NOBOF = 0x03,
+	DSA_STATUS_BATCH_FAIL = 0x05, DSA_STATUS_BAD_OPCODE = 0x10, DSA_STATUS_INVALID_FLAGS = 0x11,
+	DSA_STATUS_XFER_ERANGE = 0x13, DSA_STATUS_DESC_CNT_ERANGE = 0x14
+};
 
 /* An answer. Numbers that its kind does not speak of are 0. */
 struct dsa_answer {
@@ -137,7 +182,7 @@ struct dsa_ending {
 	uint32_t kind;   /* enum dsa_ending_kind; DSA_NOT_ENDED where there is no such row, and then the rest is 0 */
 	uint32_t name;
 	uint32_t parent; /* the name of its batch, UINT32_MAX where it was submitted */
-	uint32_t number; /* the status, or the number of the command that aborted it */
+	uint32_t number; /* enum dsa_status, or the number of the command that aborted it */
 };
 
 /* The phase of the device or of a queue. */
@@ -152,7 +197,7 @@ struct dsa_entry {
 	uint32_t flags;    /* 24 bits */
 	uint32_t size;     /* bytes; in a Batch the number of its members */
 	uint16_t queue;    /* that it, or its batch, was submitted to */
-	uint8_t operation;
+	uint8_t operation; /* enum dsa_operation, or another code */
 	uint8_t running;   /* 0 or 1 */
 };
 
@@ -216,73 +261,139 @@ uint32_t dsa_open(struct dsa_model *handle, const struct dsa_caps *caps, uint64_
 /* How many bytes dsa_open asks malloc for in all, where it opens a device; 0 where it would refuse the capabilities or the capacity. */
 uint64_t dsa_size(const struct dsa_caps *caps, uint64_t capacity);
 
-/* Closes the device and frees its memory. On a closed handle it does nothing. */
+/* How many cells such a device has, and how many lists; 0 where dsa_open would refuse the
+ * capabilities. Entries stand in cells, numbered from 0, and a cell has one at a time: a program may
+ * keep what is its own of an entry, as all 64 bytes, by cell. There is a list for each queue and two
+ * for each engine. */
+uint32_t dsa_cell_count(const struct dsa_caps *caps);
+uint32_t dsa_list_count(const struct dsa_caps *caps);
+
+/* Closes the device and frees its memory. On a closed handle, and on NULL, it does nothing. */
 void dsa_close(struct dsa_model *handle);
 
-/* ---- steps ---- */
+/* ---- steps: each gives one of the kinds of answer (enum dsa_kind) that are named above it ---- */
 
-/* A client writes a descriptor to a portal (enum dsa_portal): by ENQCMD, under its PASID, or by MOVDIR64B. */
+/* A client writes a descriptor to a portal (enum dsa_portal): by ENQCMD, under its PASID, or by
+ * MOVDIR64B. */
+/* Answers: DSA_ACCEPTED, DSA_RETRY, DSA_FULL, DSA_NO_DEVICE, DSA_BAD_ARGUMENT. */
 struct dsa_answer dsa_enqcmd(struct dsa_model *handle, uint16_t client, uint16_t queue, uint32_t portal, uint32_t pasid,
                              const struct dsa_descriptor *descriptor);
+/* Answers: DSA_ACCEPTED, DSA_DROPPED, DSA_FULL, DSA_NO_DEVICE, DSA_BAD_ARGUMENT. */
 struct dsa_answer dsa_movdir64b(struct dsa_model *handle, uint16_t client, uint16_t queue, uint32_t portal,
                                 const struct dsa_descriptor *descriptor);
 
 /* An engine takes the front of a queue of its group. */
+/* Answers: DSA_TAKEN, DSA_IDLE, DSA_FULL, DSA_NO_DEVICE. */
 struct dsa_answer dsa_dispatch(struct dsa_model *handle, uint16_t engine);
+/* The same, from this queue, for a model that follows what hardware did. DSA_IDLE: the engine may not
+ * take from it, and nothing changed. */
+/* Answers: DSA_TAKEN, DSA_IDLE, DSA_FULL, DSA_NO_DEVICE. */
+struct dsa_answer dsa_dispatch_from(struct dsa_model *handle, uint16_t engine, uint16_t queue);
 /* An engine hands in the next member of its batch. */
+/* Answers: DSA_FETCHED, DSA_NO_BATCH, DSA_ALL_FETCHED, DSA_FULL, DSA_NO_DEVICE. */
 struct dsa_answer dsa_fetch(struct dsa_model *handle, uint16_t engine, const struct dsa_descriptor *descriptor);
 /* An engine starts the first of its members that does not run. */
+/* Answers: DSA_STARTED, DSA_FENCE_WAIT, DSA_NO_BUFFERS, DSA_ABANDONED, DSA_NOTHING, DSA_FULL,
+ * DSA_NO_DEVICE. */
 struct dsa_answer dsa_start(struct dsa_model *handle, uint16_t engine);
-/* An engine ends the running entry of that cell and name, with an enum dsa_outcome. The end of a Drain looks at its queue and at
- * what is in progress on each engine. */
+/* An engine ends the running entry of that cell and name, with an enum dsa_outcome. The end of a Drain
+ * looks at its queue and at what is in progress on each engine. */
+/* Answers: DSA_DONE, DSA_NOT_READY, DSA_GONE, DSA_FULL, DSA_NO_DEVICE, DSA_BAD_ARGUMENT. */
 struct dsa_answer dsa_finish(struct dsa_model *handle, uint16_t engine, uint32_t cell, uint32_t name, uint32_t outcome);
 
-/* A word is written to the command register (DSA_COMMAND); one that is no command is refused with fault 13, even by a closed handle. */
+/* A word is written to the command register (DSA_COMMAND). One that is no command is refused with
+ * DSA_FAULT_BAD_COMMAND, even by a closed handle. */
+/* Answers: DSA_ENDED, DSA_ACTIVE, DSA_REFUSED, DSA_FULL, DSA_NO_DEVICE. */
 struct dsa_answer dsa_command(struct dsa_model *handle, uint32_t word);
 /* Asks whether the active command is over. */
+/* Answers: DSA_FINISHED, DSA_ACTIVE, DSA_NOTHING, DSA_FULL, DSA_NO_DEVICE. */
 struct dsa_answer dsa_poll(struct dsa_model *handle);
 /* Configurations are written while they are not in use. */
+/* Answers: DSA_WRITTEN, DSA_REFUSED, DSA_FULL, DSA_NO_DEVICE, DSA_BAD_ARGUMENT. */
 struct dsa_answer dsa_write_queue(struct dsa_model *handle, uint16_t queue, const struct dsa_queue *config);
+/* Answers: DSA_WRITTEN, DSA_REFUSED, DSA_FULL, DSA_NO_DEVICE. */
 struct dsa_answer dsa_write_group(struct dsa_model *handle, uint16_t group, const struct dsa_group *config);
 /* Clears the noted error, and tells it. */
+/* Answers: DSA_CLEARED, DSA_NOTHING, DSA_FULL, DSA_NO_DEVICE. */
 struct dsa_answer dsa_clear_error(struct dsa_model *handle);
 
-/* ---- reads: none changes the device; each gives DSA_NONE, DSA_NO_DEVICE, DSA_NOT_ENDED or 0 on a closed handle ---- */
+/* ---- reads: none changes the device or the handle; each gives DSA_NONE, DSA_NO_DEVICE,
+ * DSA_NOT_ENDED or 0 on a closed handle ---- */
 
-uint64_t dsa_capacity(struct dsa_model *handle);
-uint64_t dsa_occupancy(struct dsa_model *handle, uint16_t queue); /* entries that wait; DSA_NONE: no such queue */
-uint64_t dsa_used(struct dsa_model *handle, uint16_t group);      /* read buffers in use; DSA_NONE: no such group */
-uint64_t dsa_held(struct dsa_model *handle);                      /* entries in all queues and engines */
-uint64_t dsa_next_name(struct dsa_model *handle);                 /* the name that the next entry gets */
-uint64_t dsa_active(struct dsa_model *handle);                    /* number of the command that is not over; DSA_NONE: none */
-uint64_t dsa_history_length(struct dsa_model *handle);            /* stored steps; the history is full at dsa_capacity */
-uint64_t dsa_fates_length(struct dsa_model *handle);              /* entries that ended */
-struct dsa_answer dsa_noted(struct dsa_model *handle);            /* DSA_CLEARED with the noted error, or DSA_NOTHING */
-struct dsa_answer dsa_history_answer(struct dsa_model *handle, uint64_t position); /* of a stored step, the first at 0 */
-struct dsa_ending dsa_fate_at(struct dsa_model *handle, uint64_t position);        /* in the order of endings, the first at 0 */
-struct dsa_ending dsa_fate_of(struct dsa_model *handle, uint32_t name);            /* DSA_NOT_ENDED: still held, or no such name */
+uint64_t dsa_capacity(const struct dsa_model *handle);
+/* Entries that wait in the queue; DSA_NONE: no such queue. */
+uint64_t dsa_occupancy(const struct dsa_model *handle, uint16_t queue);
+/* Read buffers that the group uses; DSA_NONE: no such group. */
+uint64_t dsa_used(const struct dsa_model *handle, uint16_t group);
+/* Entries in all queues and engines. */
+uint64_t dsa_held(const struct dsa_model *handle);
+/* The name that the next entry gets. */
+uint64_t dsa_next_name(const struct dsa_model *handle);
+/* The command that is not over (enum dsa_command_number); DSA_NONE: none. */
+uint64_t dsa_active(const struct dsa_model *handle);
+/* Entries that the active command still waits for; DSA_NONE: none is active. */
+uint64_t dsa_awaited(const struct dsa_model *handle);
+/* Stored steps; the history is full at dsa_capacity. */
+uint64_t dsa_history_length(const struct dsa_model *handle);
+/* 1: each step is answered DSA_FULL; 0: the history is not full. */
+uint32_t dsa_history_is_full(const struct dsa_model *handle);
+/* Entries that ended. */
+uint64_t dsa_fates_length(const struct dsa_model *handle);
+/* The phase of the device, and of a queue (enum dsa_phase_number); DSA_NONE: no such queue. */
+uint64_t dsa_phase(const struct dsa_model *handle);
+uint64_t dsa_queue_phase(const struct dsa_model *handle, uint16_t queue);
+/* Submitted entries in progress on the engine, and members of its batch that did not end; DSA_NONE:
+ * no such engine. */
+uint64_t dsa_in_progress(const struct dsa_model *handle, uint16_t engine);
+uint64_t dsa_members(const struct dsa_model *handle, uint16_t engine);
+/* 1: the entry of that ticket is held; 0: it is not. */
+uint32_t dsa_holds(const struct dsa_model *handle, uint32_t cell, uint32_t name);
 
-uint64_t dsa_phase(struct dsa_model *handle);                        /* enum dsa_phase_number */
-uint64_t dsa_queue_phase(struct dsa_model *handle, uint16_t queue);  /* the same; DSA_NONE: no such queue */
-uint64_t dsa_in_progress(struct dsa_model *handle, uint16_t engine); /* submitted entries in progress; DSA_NONE: no such engine */
-uint64_t dsa_members(struct dsa_model *handle, uint16_t engine);     /* members not ended; DSA_NONE: no such engine */
-uint64_t dsa_awaited(struct dsa_model *handle); /* entries that the active command still waits for; DSA_NONE: none is active */
-uint32_t dsa_holds(struct dsa_model *handle, uint32_t cell, uint32_t name); /* 1: the entry of that ticket is held; 0: it is not */
-uint32_t dsa_history_is_full(struct dsa_model *handle);                     /* 1: each step is answered DSA_FULL; 0: it is not full */
+/* The noted error, or that there is none. */
+/* Answers: DSA_CLEARED, DSA_NOTHING, DSA_NO_DEVICE. */
+struct dsa_answer dsa_noted(const struct dsa_model *handle);
+/* The answer of a stored step, the first at 0, as the step gave it; DSA_NOTHING: no such step. */
+/* Answers: DSA_ACCEPTED, DSA_RETRY, DSA_DROPPED, DSA_TAKEN, DSA_FETCHED, DSA_STARTED,
+ * DSA_ABANDONED, DSA_DONE, DSA_ENDED, DSA_ACTIVE, DSA_FINISHED, DSA_WRITTEN, DSA_CLEARED,
+ * DSA_NOTHING, DSA_NO_DEVICE. */
+struct dsa_answer dsa_history_answer(const struct dsa_model *handle, uint64_t position);
+/* How an entry ended: in the order of endings, the first at 0, or by its name. DSA_NOT_ENDED: no such
+ * ending, the entry is still held, or there is no such name. */
+struct dsa_ending dsa_fate_at(const struct dsa_model *handle, uint64_t position);
+struct dsa_ending dsa_fate_of(const struct dsa_model *handle, uint32_t name);
 
-/* These write what they read and give 1. They write nothing and give 0 on a closed handle, and where the device has no such queue,
- * group, engine, place or stored step, or the engine works on no batch. Places count from 0, in the order in which entries came. A
- * place in a list is found by a walk from its front. */
-uint32_t dsa_queue_config(struct dsa_model *handle, uint16_t queue, struct dsa_queue *config);
-uint32_t dsa_group_config(struct dsa_model *handle, uint16_t group, struct dsa_group *config);
-uint32_t dsa_waiting_at(struct dsa_model *handle, uint16_t queue, uint64_t place, struct dsa_entry *entry);
-uint32_t dsa_in_progress_at(struct dsa_model *handle, uint16_t engine, uint64_t place, struct dsa_entry *entry);
-uint32_t dsa_member_at(struct dsa_model *handle, uint16_t engine, uint64_t place, struct dsa_entry *entry);
-uint32_t dsa_batch(struct dsa_model *handle, uint16_t engine, struct dsa_batch *batch);
-uint32_t dsa_history_event(struct dsa_model *handle, uint64_t position, struct dsa_event *event); /* of a stored step */
+/* These write what they read and give 1. They write nothing and give 0 on a closed handle, and where
+ * the device has no such queue, group, engine, place or stored step, the engine works on no batch, or
+ * the cell holds no entry.
+ * Places count from 0, in the order in which entries came. A place in a list is found by a walk from
+ * its front. */
+uint32_t dsa_caps_of(const struct dsa_model *handle, struct dsa_caps *caps); /* as it was opened */
+uint32_t dsa_queue_config(const struct dsa_model *handle, uint16_t queue, struct dsa_queue *config);
+uint32_t dsa_group_config(const struct dsa_model *handle, uint16_t group, struct dsa_group *config);
+uint32_t dsa_waiting_at(const struct dsa_model *handle, uint16_t queue, uint64_t place,
+                        struct dsa_entry *entry);
+uint32_t dsa_in_progress_at(const struct dsa_model *handle, uint16_t engine, uint64_t place,
+                            struct dsa_entry *entry);
+uint32_t dsa_member_at(const struct dsa_model *handle, uint16_t engine, uint64_t place,
+                       struct dsa_entry *entry);
+/* The entry in a cell, found without a walk. */
+uint32_t dsa_entry_in(const struct dsa_model *handle, uint32_t cell, struct dsa_entry *entry);
+/* C++ warns of a function with the name of a struct. */
+#if defined(__cplusplus) && defined(__GNUC__)
+#pragma GCC diagnostic push
+#pragma GCC diagnostic ignored "-Wshadow"
+#endif
+uint32_t dsa_batch(const struct dsa_model *handle, uint16_t engine, struct dsa_batch *batch);
+#if defined(__cplusplus) && defined(__GNUC__)
+#pragma GCC diagnostic pop
+#endif
+/* The event of a stored step. */
+uint32_t dsa_history_event(const struct dsa_model *handle, uint64_t position, struct dsa_event *event);
 /* The configuration that a stored step wrote to a queue or to a group; of another step there is none. */
-uint32_t dsa_history_queue_config(struct dsa_model *handle, uint64_t position, struct dsa_queue *config);
-uint32_t dsa_history_group_config(struct dsa_model *handle, uint64_t position, struct dsa_group *config);
+uint32_t dsa_history_queue_config(const struct dsa_model *handle, uint64_t position,
+                                  struct dsa_queue *config);
+uint32_t dsa_history_group_config(const struct dsa_model *handle, uint64_t position,
+                                  struct dsa_group *config);
 
 /* ---- descriptors: these need no device; `member` is 0 for one that is submitted, else it is in a batch ---- */
 
@@ -298,9 +409,23 @@ uint32_t dsa_version(void); /* DSA_VERSION of the library */
 }
 #endif
 
-/* ---- names: C of this header, tested and not proved ---- */
+/* ---- C of this header, tested and not proved; the library exports these functions too ---- */
 
-static inline const char *dsa_kind_name(uint32_t kind)
+#ifndef DSA_IN_HEADER
+#define DSA_IN_HEADER static inline
+#endif
+
+/* A closed handle. */
+DSA_IN_HEADER struct dsa_model dsa_closed(void)
+{
+	struct dsa_model closed = DSA_CLOSED;
+	return closed;
+}
+
+/* The names of enum dsa_kind, dsa_fault, dsa_command_number, dsa_status and dsa_operation. Each is "?"
+ * where a number has none. */
+
+DSA_IN_HEADER const char *dsa_kind_name(uint32_t kind)
 {
 	static const char *const names[] = {
 		"no device", "accepted", "retry", "dropped", "taken", "idle", "fetched", "no batch", "all fetched", "started",
@@ -310,7 +435,7 @@ static inline const char *dsa_kind_name(uint32_t kind)
 	return kind < sizeof names / sizeof names[0] ? names[kind] : "?";
 }
 
-static inline const char *dsa_fault_name(uint32_t number)
+DSA_IN_HEADER const char *dsa_fault_name(uint32_t number)
 {
 	static const char *const names[] = {
 		"?", "SizesTooLarge", "TwoGroups", "ReservedTooMany", "AllowedOutOfRange", "GroupWithoutEngine", "GroupWithoutQueue",
@@ -320,7 +445,7 @@ static inline const char *dsa_fault_name(uint32_t number)
 	return number < sizeof names / sizeof names[0] ? names[number] : "?";
 }
 
-static inline const char *dsa_command_name(uint32_t number)
+DSA_IN_HEADER const char *dsa_command_name(uint32_t number)
 {
 	static const char *const names[] = {
 		"?", "Enable Device", "Disable Device", "Drain All", "Abort All", "Reset Device", "Enable WQ", "Disable WQ", "Drain WQ",
@@ -329,7 +454,7 @@ static inline const char *dsa_command_name(uint32_t number)
 	return number < sizeof names / sizeof names[0] ? names[number] : "?";
 }
 
-static inline const char *dsa_status_name(uint32_t status)
+DSA_IN_HEADER const char *dsa_status_name(uint32_t status)
 {
 	switch (status) {
 	case 0x00: return "DSA_COMP_NONE";
@@ -342,6 +467,15 @@ static inline const char *dsa_status_name(uint32_t status)
 	case 0x14: return "DSA_COMP_DESC_CNT_ERANGE";
 	default: return "?";
 	}
+}
+
+DSA_IN_HEADER const char *dsa_operation_name(uint32_t operation)
+{
+	static const char *const names[] = {
+		"DSA_OPCODE_NOOP", "DSA_OPCODE_BATCH", "DSA_OPCODE_DRAIN", "DSA_OPCODE_MEMMOVE",
+		"DSA_OPCODE_MEMFILL", "DSA_OPCODE_COMPARE"
+	};
+	return operation < sizeof names / sizeof names[0] ? names[operation] : "?";
 }
 
 #endif

@@ -5,7 +5,7 @@ use Rattle.dsa_book.specs.declared.answer.Ticket.{Ticket}
 use Rattle.dsa_book.specs.declared.answer.Cause.{Cause, TheVariants.{AtLimit, NotEnabled, WrongKind}}
 use Rattle.dsa_book.specs.declared.answer.NotedError.{NotedError}
 use Rattle.dsa_book.specs.declared.answer.SubmitAnswer.TheVariants.{Accepted, Retry, Dropped, Full}
-use Rattle.dsa_book.specs.declared.answer.DispatchAnswer.TheVariants.{Taken, Idle, Full}
+use Rattle.dsa_book.specs.declared.answer.DispatchAnswer.{DispatchAnswer, TheVariants.{Taken, Idle, Full}}
 use Rattle.dsa_book.specs.declared.answer.FetchAnswer.TheVariants.{Fetched, NoBatch, AllFetched, Full}
 use Rattle.dsa_book.specs.declared.answer.StartAnswer.TheVariants.{Started, FenceWait, NoBuffers, Abandoned, Nothing}
 use Rattle.dsa_book.specs.declared.answer.StartAnswer.TheVariants.{Full}
@@ -127,6 +127,11 @@ answer_of (Write Full) = plain kind.Full 0
 answer_of (Clear (Cleared noted)) = of_noted noted
 answer_of (Clear Nothing) = plain kind.Nothing 0
 answer_of (Clear Full) = plain kind.Full 0
+
+-- what a dispatch from a queue is to C: idle where the queue does not qualify
+abbrev pub answer_from_queue : Option DispatchAnswer → Answer
+answer_from_queue None = plain kind.Idle 0
+answer_from_queue (Some answer) = answer_of (Dispatch answer)
 
 -- the noted error, or that there is none
 abbrev pub noted_answer : Option NotedError → Answer

@@ -1,13 +1,15 @@
 -- What the calls do to the device behind a handle.
 use Rattle.dsa_book.specs.declared.event.Event.TheVariants as event
-use Rattle.std.specs.Prelude.{◌≡◌, ℕ, Bool, true, false, ◌==◌, cond, List, slice_get, Option, None, Some}
+use Rattle.dsa_book.specs.declared.answer.Reply.TheVariants as reply
+use Rattle.std.specs.Prelude.{◌≡◌, ◌≢◌, ℕ, Bool, true, false, ◌==◌, cond, List, length, slice_get, Option, None, Some}
 use Rattle.std.specs.Prelude.{IsSomeAnd, option_map, Result, Ok, Err}
 use Rattle.dsa_desc.specs.declared.{Outcome.{Outcome, TheVariants.{Success, PageFault}}, Descriptor.{Descriptor}}
 use Rattle.dsa_desc.specs.declared.QueueLimits.{QueueLimits}
 use Rattle.dsa_desc.specs.Descriptor.{read, status}
 use Rattle.dsa_regs.specs.declared.{QueueConfig.{QueueConfig}, GroupConfig.{GroupConfig}, Command.{Command}}
 use Rattle.dsa_regs.specs.declared.Fault.{Fault}
-use Rattle.dsa_book.specs.declared.answer.Reply.{Reply}
+use Rattle.dsa_book.specs.declared.answer.{Reply.{Reply}, DispatchAnswer.{DispatchAnswer, TheVariants.{Full}}}
+use Rattle.dsa_book.specs.{Choice.{choice_of, from_queue}, Work.{qualifies}}
 use Rattle.dsa_book.specs.declared.event.{Event.{Event}, Kind.{Kind}}
 use Rattle.dsa_book.specs.declared.event.Portal.{Portal, TheVariants.{Limited, Unlimited}}
 use Rattle.dsa_device.specs.declared.faults.MakeFault.{MakeFault}
@@ -17,7 +19,7 @@ use Rattle.dsa_book.specs.declared.fate.FateRow.{FateRow}
 use Rattle.dsa_c.specs.declared.{answer.{Answer.{Answer}, Ending.{Ending}}, words.DeviceLimits.{DeviceLimits}}
 use Rattle.dsa_c.specs.declared.steps.{DeviceQueue.{DeviceQueue}, DeviceGroup.{DeviceGroup}}
 use Rattle.dsa_c.specs.Answers.{answer_of, no_device, bad_argument, refusal_answer, noted_answer, step_answer}
-use Rattle.dsa_c.specs.Answers.{ending_of}
+use Rattle.dsa_c.specs.Answers.{answer_from_queue, ending_of}
 use Rattle.dsa_c.specs.Place.{HeldDevice}
 use Rattle.dsa_c.specs.declared.numbers.TheConstants.{LIMITED, UNLIMITED, SUCCESS, PAGE_FAULT, BAD_CAPS, BAD_CAPACITY, BAD_STORE}
 use Rattle.dsa_c.specs.declared.numbers.TheConstants.{OUT_OF_MEMORY, NONE}
@@ -38,6 +40,22 @@ IsCall before (Some event) answer after = IsStep before event answer after
 abbrev pub IsIssue : Result Command Fault → HeldDevice → Answer → HeldDevice → Type 0
 IsIssue (Ok command) before answer after = IsStep before (event.Issue command) answer after
 IsIssue (Err fault) before answer after = (answer ≡ refusal_answer fault) × (after ≡ before)
+
+-- a dispatch from a queue: an answer that the machine allows and that, unless the history has no room, took from that
+-- queue; or none, where the queue does not qualify, and nothing changed
+abbrev pub IsDispatchFrom : Running → ℕ → ℕ → Option DispatchAnswer → Running → Type 0
+IsDispatchFrom before engine queue None after =
+    (qualifies before.state.work engine queue ≡ false) × ((length before.history ≢ before.capacity) × (after ≡ before))
+IsDispatchFrom before engine queue (Some answer) after =
+    (after_answer before (event.Dispatch engine) (reply.Dispatch answer) ≡ Some after)
+    × (answer ≢ Full → choice_of (reply.Dispatch answer) ≡ from_queue queue)
+
+-- the device behind a handle was asked for a dispatch from a queue; a handle of no device stays one
+abbrev pub IsStepFrom : ℕ → ℕ → HeldDevice → Answer → HeldDevice → Type 0
+IsStepFrom engine queue None answer after = (answer ≡ no_device) × (after ≡ None)
+IsStepFrom engine queue (Some machine) answer after =
+    IsSomeAnd after (λ then. (found : Option DispatchAnswer)
+    × ((answer ≡ answer_from_queue found) × IsDispatchFrom machine.device engine queue found then.device))
 
 -- ---- numbers of arguments
 

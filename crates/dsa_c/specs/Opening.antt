@@ -1,7 +1,7 @@
 -- What opening a device does.
-use Rattle.std.specs.Prelude.{◌≡◌, ℕ, ◌+◌, ◌*◌, Option, None, Some}
+use Rattle.std.specs.Prelude.{◌≡◌, ℕ, ◌+◌, ◌*◌, cond, Option, None, Some}
 use Rattle.dsa_base.specs.Rows.{first_row}
-use Rattle.dsa_regs.specs.{declared.Caps.{Caps}, Caps.{cell_count, list_count}}
+use Rattle.dsa_regs.specs.{declared.Caps.{Caps}, Caps.{check_caps, cell_count, list_count}}
 use Rattle.dsa_device.specs.declared.faults.MakeFault.{MakeFault}
 use Rattle.dsa_device.specs.Running.{running_at_first}
 use Rattle.dsa_device.specs.Made.{opening_table, opening_fault}
@@ -19,6 +19,22 @@ caps_from_c caps = record {
   max_batch_shift = caps.max_batch_shift;
   max_xfer_shift = caps.max_xfer_shift;
 }
+
+abbrev pub caps_for_c : Caps → DeviceCaps
+caps_for_c caps = record {
+  queues = caps.queues;
+  groups = caps.groups;
+  engines = caps.engines;
+  total_size = caps.total_size;
+  read_buffers = caps.read_buffers;
+  slots = caps.slots;
+  max_batch_shift = caps.max_batch_shift;
+  max_xfer_shift = caps.max_xfer_shift;
+}
+
+-- how many of something a device of these capabilities has, none where there is no such device
+abbrev pub count_of_caps : (Caps → ℕ) → Caps → ℕ
+count_of_caps count caps = cond (check_caps caps) (count caps) 0
 
 -- after an opening that ended with this number, where there was no device: an opened one, or none for the first fault
 -- that stands, or for want of memory where none does

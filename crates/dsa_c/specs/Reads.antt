@@ -1,10 +1,10 @@
 -- What a read writes for C.
-use Rattle.std.specs.Prelude.{◌≡◌, ℕ, Bool, List, Option, None, Some, nat_lt}
+use Rattle.std.specs.Prelude.{◌≡◌, ℕ, Bool, List, Option, None, Some, nat_lt, option_map}
 use Rattle.dsa_base.specs.Rows.{passes, when}
 use Rattle.dsa_regs.specs.declared.Phase.{Phase, TheVariants.{Off, On, Stopping}}
 use Rattle.dsa_regs.specs.declared.{QueueConfig.{QueueConfig}, GroupConfig.{GroupConfig}}
 use Rattle.dsa_regs.specs.declared.layout.ListUse.{ListUse, TheVariants.{Queue, Progress, Members}}
-use Rattle.dsa_store.specs.Content.{HeldEntry, chain}
+use Rattle.dsa_store.specs.{declared.entry.Cell.{Cell}, Content.{HeldEntry, chain, entry_of}}
 use Rattle.dsa_book.specs.Work.{in_progress, members}
 use Rattle.dsa_book.specs.declared.note.BatchNote.{BatchNote}
 use Rattle.dsa_device.specs.Running.{Running}
@@ -33,6 +33,10 @@ abbrev pub entries_of_list_for_c : Running → ListUse → Option (List HeldEntr
 entries_of_list_for_c d (Queue queue) = when (nat_lt queue d.caps.queues) (chain d.state.work.content queue)
 entries_of_list_for_c d (Progress engine) = when (nat_lt engine d.caps.engines) (in_progress d.state.work engine)
 entries_of_list_for_c d (Members engine) = when (nat_lt engine d.caps.engines) (members d.state.work engine)
+
+-- the entry that the cell holds, with the cell
+abbrev pub entry_in_cell : Cell → Running → Option HeldEntry
+entry_in_cell cell d = option_map (λ entry. (cell, entry)) (entry_of d.state.work.content cell)
 
 abbrev pub phase_number : Phase → ℕ
 phase_number Off = OFF

@@ -5,7 +5,7 @@ ghost use Rattle.dsa_book.specs.declared.answer.Reply.TheVariants as reply;
 ghost use Rattle.dsa_c.specs.Answers.{plain, of_ticket, kind_number, cause_number, of_noted};
 ghost use Rattle.dsa_c.specs.Answers.{no_device, bad_argument, refusal_answer, answer_of, step_answer};
 ghost use Rattle.dsa_c.specs.Answers.{noted_answer, fate_kind, fate_number, parent_number};
-ghost use Rattle.dsa_c.specs.Answers.{ending_of};
+ghost use Rattle.dsa_c.specs.Answers.{answer_from_queue, ending_of};
 
 use crate::numbers::{
     ABORTED, AT_LIMIT, BEHIND_FENCE, COMPLETED, NOT_ENABLED, NOT_ENDED, WRONG_KIND,
@@ -84,6 +84,16 @@ impl AnswerKind {
     }
 }
 
+// What an answer is to C: one with numbers as its arm says, and any other by the kind of its name.
+macro_rules! answer_for_c {
+    ($answer:ident, { $($numbered:pat => $made:expr,)* }, $Answers:ident: $($Plain:ident),*) => {
+        match $answer {
+            $($numbered => $made,)*
+            $($Answers::$Plain => Answer::plain(AnswerKind::$Plain, 0),)*
+        }
+    };
+}
+
 impl Answer {
     fn plain(kind: AnswerKind, more: u32) -> Answer
         ensures { result ≡ plain kind more }
@@ -143,26 +153,33 @@ impl Answer {
     pub(crate) fn of_submit(answer: SubmitAnswer) -> Answer
         ensures { result ≡ answer_of (reply.Submit answer) }
     {
-        match answer {
+        answer_for_c!(answer, {
             SubmitAnswer::Accepted(ticket) => Answer::ticket(AnswerKind::Accepted, ticket, 0),
             SubmitAnswer::Retry(cause) => Answer::plain(AnswerKind::Retry, cause_number(cause)),
             SubmitAnswer::Dropped(cause) => Answer::plain(AnswerKind::Dropped, cause_number(cause)),
-            SubmitAnswer::Full => Answer::plain(AnswerKind::Full, 0),
-        }
+        }, SubmitAnswer: Full)
     }
 
     /// What the answer is to C.
     pub(crate) fn of_dispatch(answer: DispatchAnswer) -> Answer
         ensures { result ≡ answer_of (reply.Dispatch answer) }
     {
-        match answer {
+        answer_for_c!(answer, {
             DispatchAnswer::Taken { ticket, queue } => Answer::ticket(
                 AnswerKind::Taken,
                 ticket,
                 u32::from(queue),
             ),
-            DispatchAnswer::Idle => Answer::plain(AnswerKind::Idle, 0),
-            DispatchAnswer::Full => Answer::plain(AnswerKind::Full, 0),
+        }, DispatchAnswer: Idle, Full)
+    }
+
+    /// What the answer of a dispatch from a queue is to C.
+    pub(crate) fn of_dispatch_from(answer: Option<DispatchAnswer>) -> Answer
+        ensures { result ≡ answer_from_queue answer }
+    {
+        match answer {
+            Some(answer) => Answer::of_dispatch(answer),
+            None => Answer::plain(AnswerKind::Idle, 0),
         }
     }
 
@@ -170,84 +187,63 @@ impl Answer {
     pub(crate) fn of_fetch(answer: FetchAnswer) -> Answer
         ensures { result ≡ answer_of (reply.Fetch answer) }
     {
-        match answer {
+        answer_for_c!(answer, {
             FetchAnswer::Fetched(ticket) => Answer::ticket(AnswerKind::Fetched, ticket, 0),
-            FetchAnswer::NoBatch => Answer::plain(AnswerKind::NoBatch, 0),
-            FetchAnswer::AllFetched => Answer::plain(AnswerKind::AllFetched, 0),
-            FetchAnswer::Full => Answer::plain(AnswerKind::Full, 0),
-        }
+        }, FetchAnswer: NoBatch, AllFetched, Full)
     }
 
     /// What the answer is to C.
     pub(crate) fn of_start(answer: StartAnswer) -> Answer
         ensures { result ≡ answer_of (reply.Start answer) }
     {
-        match answer {
+        answer_for_c!(answer, {
             StartAnswer::Started(ticket) => Answer::ticket(AnswerKind::Started, ticket, 0),
-            StartAnswer::FenceWait => Answer::plain(AnswerKind::FenceWait, 0),
-            StartAnswer::NoBuffers => Answer::plain(AnswerKind::NoBuffers, 0),
             StartAnswer::Abandoned(count) => Answer::plain(AnswerKind::Abandoned, count),
-            StartAnswer::Nothing => Answer::plain(AnswerKind::Nothing, 0),
-            StartAnswer::Full => Answer::plain(AnswerKind::Full, 0),
-        }
+        }, StartAnswer: FenceWait, NoBuffers, Nothing, Full)
     }
 
     /// What the answer is to C.
     pub(crate) fn of_finish(answer: FinishAnswer) -> Answer
         ensures { result ≡ answer_of (reply.Finish answer) }
     {
-        match answer {
+        answer_for_c!(answer, {
             FinishAnswer::Done(status) => Answer::plain(AnswerKind::Done, u32::from(status)),
-            FinishAnswer::NotReady => Answer::plain(AnswerKind::NotReady, 0),
-            FinishAnswer::Gone => Answer::plain(AnswerKind::Gone, 0),
-            FinishAnswer::Full => Answer::plain(AnswerKind::Full, 0),
-        }
+        }, FinishAnswer: NotReady, Gone, Full)
     }
 
     /// What the answer is to C.
     pub(crate) fn of_issue(answer: IssueAnswer) -> Answer
         ensures { result ≡ answer_of (reply.Issue answer) }
     {
-        match answer {
+        answer_for_c!(answer, {
             IssueAnswer::Ended { aborted } => Answer::plain(AnswerKind::Ended, aborted),
-            IssueAnswer::Active => Answer::plain(AnswerKind::Active, 0),
             IssueAnswer::Refused(fault) => Answer::refused(fault),
-            IssueAnswer::Full => Answer::plain(AnswerKind::Full, 0),
-        }
+        }, IssueAnswer: Active, Full)
     }
 
     /// What the answer is to C.
     pub(crate) fn of_poll(answer: PollAnswer) -> Answer
         ensures { result ≡ answer_of (reply.Poll answer) }
     {
-        match answer {
-            PollAnswer::Finished => Answer::plain(AnswerKind::Finished, 0),
-            PollAnswer::Active => Answer::plain(AnswerKind::Active, 0),
-            PollAnswer::Nothing => Answer::plain(AnswerKind::Nothing, 0),
-            PollAnswer::Full => Answer::plain(AnswerKind::Full, 0),
-        }
+        answer_for_c!(answer, {}, PollAnswer: Finished, Active, Nothing, Full)
     }
 
     /// What the answer is to C.
     pub(crate) fn of_write(answer: WriteAnswer) -> Answer
         ensures { result ≡ answer_of (reply.Write answer) }
     {
-        match answer {
-            WriteAnswer::Written => Answer::plain(AnswerKind::Written, 0),
+        answer_for_c!(answer, {
             WriteAnswer::Refused(fault) => Answer::refused(fault),
-            WriteAnswer::Full => Answer::plain(AnswerKind::Full, 0),
-        }
+        }, WriteAnswer: Written, Full)
     }
 
     /// What the answer is to C.
     pub(crate) fn of_clear(answer: ClearAnswer) -> Answer
         ensures { result ≡ answer_of (reply.Clear answer) }
     {
-        match answer {
+        answer_for_c!(answer, {
             ClearAnswer::Cleared(noted) => Answer::of_noted(noted),
-            ClearAnswer::Nothing => Answer::plain(AnswerKind::Nothing, 0),
-            ClearAnswer::Full => Answer::plain(AnswerKind::Full, 0),
-        }
+        }, ClearAnswer: Nothing, Full)
     }
 
     /// What the reply is to C.

@@ -1,16 +1,18 @@
 //! How a handle gets its device, and gives it up.
 
-ghost use Rattle.std.specs.Prelude.{◌≡◌, None, is_some};
+ghost use Rattle.std.specs.Prelude.{◌≡◌, None, Some, is_some};
 ghost use Rattle.dsa_base.specs.Rows.{first_row};
+ghost use Rattle.dsa_regs.specs.Caps.{cell_count, list_count};
 ghost use Rattle.dsa_device.specs.Made.{opening_table};
-ghost use Rattle.dsa_c.specs.{Opening.{IsOpening, caps_from_c, bytes_taken}, Calls.{opening_number}};
+ghost use Rattle.dsa_c.specs.Opening.{IsOpening, caps_from_c, caps_for_c, count_of_caps, bytes_taken};
+ghost use Rattle.dsa_c.specs.{Calls.{opening_number}, Reads.{IsReadForC}};
 
-use crate::handle::Handle;
+use crate::handle::{Handle, let_device};
 use crate::numbers::{ALREADY_OPEN, BAD_CAPACITY, BAD_CAPS, BAD_STORE, OPENED, OUT_OF_MEMORY};
 use dsa_book::{FateRow, Step};
 use dsa_device::{MakeFault, check_opening};
 use dsa_linked::LinkedDevice;
-use dsa_regs::{Caps, cell_count, list_count};
+use dsa_regs::{Caps, cell_count, check_caps, list_count};
 use std::alloc::Global;
 
 /// What a device has, as C says it.
@@ -27,19 +29,32 @@ pub struct DeviceCaps {
     pub max_xfer_shift: u8,
 }
 
+// The same capabilities, as this struct says them.
+macro_rules! same_caps {
+    ($Said:ident, $caps:ident) => {
+        $Said {
+            queues: $caps.queues,
+            groups: $caps.groups,
+            engines: $caps.engines,
+            total_size: $caps.total_size,
+            read_buffers: $caps.read_buffers,
+            slots: $caps.slots,
+            max_batch_shift: $caps.max_batch_shift,
+            max_xfer_shift: $caps.max_xfer_shift,
+        }
+    };
+}
+
 fn caps_of(caps: &DeviceCaps) -> Caps
     ensures { result ≡ caps_from_c caps.now }
 {
-    Caps {
-        queues: caps.queues,
-        groups: caps.groups,
-        engines: caps.engines,
-        total_size: caps.total_size,
-        read_buffers: caps.read_buffers,
-        slots: caps.slots,
-        max_batch_shift: caps.max_batch_shift,
-        max_xfer_shift: caps.max_xfer_shift,
-    }
+    same_caps!(Caps, caps)
+}
+
+fn caps_for_c(found: &Caps) -> DeviceCaps
+    ensures { result ≡ caps_for_c found.now }
+{
+    same_caps!(DeviceCaps, found)
 }
 
 fn fault_number(fault: MakeFault) -> u32
@@ -83,6 +98,33 @@ pub extern "C" fn dsa_size(caps: &DeviceCaps, capacity: u64) -> u64
     cells + lists + STEP_BYTES * capacity + DEVICE_BYTES
 }
 
+// A count of these capabilities, 0 where there is no such device.
+macro_rules! count_of_caps {
+    ($caps:ident, $count:expr) => {{
+        let $caps = caps_of($caps);
+        if !check_caps(&$caps) {
+            return 0;
+        }
+        $count
+    }};
+}
+
+/// How many cells a device of these capabilities has, 0 where there is no such device.
+#[unsafe(no_mangle)]
+pub extern "C" fn dsa_cell_count(caps: &DeviceCaps) -> u32
+    ensures { result ≡ count_of_caps cell_count (caps_from_c caps.now) }
+{
+    count_of_caps!(caps, cell_count(&caps))
+}
+
+/// How many lists a device of these capabilities has, 0 where there is no such device.
+#[unsafe(no_mangle)]
+pub extern "C" fn dsa_list_count(caps: &DeviceCaps) -> u32
+    ensures { result ≡ count_of_caps list_count (caps_from_c caps.now) }
+{
+    count_of_caps!(caps, u32::from(list_count(&caps)))
+}
+
 /// Opens a device behind a handle that has none: 0, or the number of what keeps it from being
 /// opened.
 #[unsafe(no_mangle)]
@@ -107,6 +149,17 @@ pub extern "C" fn dsa_open(
     };
     handle.put(machine);
     OPENED
+}
+
+/// What the device has, as it was opened.
+#[unsafe(no_mangle)]
+pub extern "C" fn dsa_caps_of(handle: &mut Handle, caps: &mut DeviceCaps) -> u32
+    ensures { IsReadForC caps_for_c (λ d. Some d.caps)
+        handle.old.place.machine result caps.old caps.new handle.new.place.machine }
+{
+    let_device!(device, handle, 0);
+    *caps = caps_for_c(&device.caps());
+    1
 }
 
 /// Closes the device behind a handle, and frees what it took. A handle of no device stays one.

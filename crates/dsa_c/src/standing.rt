@@ -10,7 +10,7 @@ ghost use Rattle.dsa_book.specs.Work.{in_progress, members, note_at};
 ghost use Rattle.dsa_device.specs.Reads.{awaited, is_held, entry_at};
 ghost use Rattle.dsa_c.specs.Calls.{IsReadAs, number_told, number_told_for};
 ghost use Rattle.dsa_c.specs.Reads.{IsWrittenForC, IsReadForC, bit_asked, phase_number, entries_of_list_for_c};
-ghost use Rattle.dsa_c.specs.Reads.{queue_for_c};
+ghost use Rattle.dsa_c.specs.Reads.{queue_for_c, entry_in_cell};
 ghost use Rattle.dsa_c.specs.Reads.{group_for_c, entry_for_c, batch_for_c};
 ghost use Rattle.dsa_c.specs.Answers.{bit_number};
 
@@ -261,6 +261,21 @@ pub extern "C" fn dsa_member_at(
         handle.old.place.machine result entry.old entry.new handle.new.place.machine }
 {
     write_entry(handle, ListUse::Members(engine), place, entry)
+}
+
+/// The entry that the cell holds.
+#[unsafe(no_mangle)]
+pub extern "C" fn dsa_entry_in(handle: &mut Handle, cell: u32, entry: &mut DeviceEntry) -> u32
+    ensures { IsReadForC entry_for_c (entry_in_cell (record { 0 = cell }))
+        handle.old.place.machine result entry.old entry.new handle.new.place.machine }
+{
+    let cell = Cell(cell);
+    let_device!(device, handle, 0);
+    let Some(held) = device.entry_in(cell) else {
+        return 0;
+    };
+    *entry = entry_for_c(cell, &held);
+    1
 }
 
 /// What is noted of the batch that the engine works on.

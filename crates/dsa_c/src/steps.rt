@@ -5,8 +5,8 @@ ghost use Rattle.dsa_desc.specs.Descriptor.{read};
 ghost use Rattle.dsa_regs.specs.Command.{command_of};
 ghost use Rattle.dsa_book.specs.declared.event.Event.TheVariants as event;
 ghost use Rattle.dsa_book.specs.declared.event.Kind.TheVariants as kind;
-ghost use Rattle.dsa_c.specs.Calls.{IsStep, IsCall, IsIssue, portal_from_c, bit_of, outcome_from_c};
-ghost use Rattle.dsa_c.specs.Calls.{submission_from_c, finishing, queue_write, group_from_c};
+ghost use Rattle.dsa_c.specs.Calls.{IsStep, IsStepFrom, IsCall, IsIssue, portal_from_c, bit_of};
+ghost use Rattle.dsa_c.specs.Calls.{submission_from_c, finishing, queue_write, group_from_c, outcome_from_c};
 
 use crate::answer::Answer;
 use crate::handle::{Handle, let_device};
@@ -178,6 +178,15 @@ pub extern "C" fn dsa_dispatch(handle: &mut Handle, engine: u16) -> Answer
 {
     let_device!(device, handle, Answer::no_device());
     Answer::of_dispatch(device.dispatch(engine))
+}
+
+/// The step of an engine that takes the front of this queue.
+#[unsafe(no_mangle)]
+pub extern "C" fn dsa_dispatch_from(handle: &mut Handle, engine: u16, queue: u16) -> Answer
+    ensures { IsStepFrom engine queue handle.old.place.machine result handle.new.place.machine }
+{
+    let_device!(device, handle, Answer::no_device());
+    Answer::of_dispatch_from(device.dispatch_from(engine, queue))
 }
 
 /// The step of an engine that starts the first of its members that does not run.

@@ -1,5 +1,6 @@
 pub mod Allowed
 pub mod Firsts
+pub mod Items
 pub mod Keys
 pub mod Nearest
 pub mod ReadTexts

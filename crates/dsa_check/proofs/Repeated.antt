@@ -1,5 +1,7 @@
 -- Sets of keys, and how often a key comes, one key after the other.
-use Rattle.std.proofs.Common.{◌++◌, ◌+◌, ◌<◌, ◌==◌, nat_lt, length, take, drop, get_or, arith, Bor, map, [], ◌∷◌, ◌≡◌, ◌&&◌, ◌||◌, ◌∙◌, ℕ, Bool, true, false, not, List, bytes_eq, refl, sym, ap, subst}
+use Rattle.std.proofs.Common.{◌++◌, ◌+◌, ◌<◌, ◌==◌, nat_lt, length, take, drop, get_or, arith, Bor}
+use Rattle.std.proofs.Common.{map, [], ◌∷◌, ◌≡◌, ◌&&◌, ◌||◌, ◌∙◌, ℕ, Bool, true, false, not, List}
+use Rattle.std.proofs.Common.{bytes_eq, refl, sym, ap, subst}
 use Rattle.std.specs.{Prelude.{cond}, Ordering.{nat_cmp, is_eq}, Cmp.Lexicographic.{slice_cmp}}
 use Rattle.std.specs.{declared.{alloc.Global.{Global}}}
 use Rattle.json.specs.{Strict.{keys}, Value.{members_view}}

@@ -14,7 +14,7 @@ use Rattle.dsa_scenario.specs.declared.{fields.Form.{Form}, actions.StepKind.{St
 use Rattle.dsa_scenario.specs.Fields.{below_limit, whole_of, hex_bytes_of, at_least, Row, Maker, reading_at, made_of}
 use Rattle.dsa_scenario.specs.Actions.{KindRow, kind_row, row_of_kind, rows_in, asked_by, action_by, kind_of, action_of}
 use Rattle.dsa_scenario.specs.{Actions.{caps_of}, Document.{head_of}}
-use Rattle.dsa_check.specs.Reasons.{fits_form, has_rows, is_step_of, is_step, has_caps, is_between}
+use Rattle.dsa_check.specs.Reasons.{is_of_form, fits_form, has_rows, is_step_of, is_step, has_caps, is_between}
 use Rattle.dsa_check.specs.Tables.{bounded_number, caps_rows, device_rows, document_rows}
 
 -- what needs a value is there where that value is, and the rest
@@ -68,35 +68,25 @@ at_whole : (least most : ℕ) (o : Option Data)
 at_whole least most None = refl
 at_whole least most (Some d) = of_number least most (option_and_then as_u64 (as_number d))
 
-at_truth : (o : Option Data) → is_some (option_and_then as_bool o) ≡ fits_form form.Truth o
-at_truth None = refl
-at_truth (Some d) = refl
-
-at_text : (o : Option Data) → is_some (option_and_then as_str o) ≡ fits_form form.Text o
-at_text None = refl
-at_text (Some d) = refl
+-- a value of which something is read exactly where it is of the form
+at_form : {A : Type 0} (read : Data → Option A) (wanted : Form) → ((d : Data) → is_some (read d) ≡ is_of_form wanted d)
+    → (o : Option Data) → is_some (option_and_then read o) ≡ fits_form wanted o
+at_form read wanted f None = refl
+at_form read wanted f (Some d) = f d
 
 at_digits : (o : Option Data) → is_some (option_and_then hex_bytes_of (option_and_then as_str o)) ≡ fits_form form.Digits o
 at_digits None = refl
 at_digits (Some d) = refl
 
-at_array : (o : Option Data) → is_some (option_and_then as_array o) ≡ fits_form form.Array o
-at_array None = refl
-at_array (Some d) = refl
-
-at_object : (o : Option Data) → is_some (option_and_then as_object o) ≡ fits_form form.Object o
-at_object None = refl
-at_object (Some d) = refl
-
 -- something is read at a key exactly where what stands there is of the form
 reading_fits : (wanted : Form) (key : List ℕ) (d : Data) → is_some (reading_at wanted key d) ≡ fits_form wanted (get key d)
 reading_fits (form.Whole least most) key d = at_whole least most (get key d)
 reading_fits (form.Bounded field least most) key d = at_held (suc field) field least most refl (get key d)
-reading_fits form.Truth key d = at_truth (get key d)
-reading_fits form.Text key d = at_text (get key d)
+reading_fits form.Truth key d = at_form as_bool form.Truth (λ v. refl) (get key d)
+reading_fits form.Text key d = at_form as_str form.Text (λ v. refl) (get key d)
 reading_fits form.Digits key d = at_digits (get key d)
-reading_fits form.Array key d = at_array (get key d)
-reading_fits form.Object key d = at_object (get key d)
+reading_fits form.Array key d = at_form as_array form.Array (λ v. refl) (get key d)
+reading_fits form.Object key d = at_form as_object form.Object (λ v. refl) (get key d)
 
 -- ---- one kind, and all
 
@@ -164,7 +154,7 @@ in_order true true c d = sym (and-true (c && (d && true)))
 pub head_has : (d : Data) → is_some (head_of d) ≡ (has_rows d document_rows && has_caps (get (codes "caps") d))
 head_has d =
     needs _ _ _ _ (caps_in (get (codes "caps") d)) (λ caps. needs _ _ _ _ (capacity_has d) (λ capacity.
-    needs _ _ _ true (at_array (get (codes "steps") d)) (λ steps. refl)))
+    needs _ _ _ true (at_form as_array form.Array (λ v. refl) (get (codes "steps") d)) (λ steps. refl)))
     ∙ in_order (fits_form form.Object (get (codes "caps") d)) (has_caps (get (codes "caps") d))
     (fits_form (bounded_number 64 0 (2 ^ 20)) (get (codes "capacity") d)) (fits_form form.Array (get (codes "steps") d))
 

@@ -1,32 +1,32 @@
 -- What is added to a list, one part more.
 use Rattle.dsa_scenario.specs.declared.fields.Form.TheVariants as form
-use Rattle.std.proofs.Common.{◌≡◌, ◌<◌, ◌+◌, ◌%◌, ◌==◌, ℕ, suc, Bool, true, false, List, [], ◌∷◌, ◌++◌, map, length, take}
-use Rattle.std.proofs.Common.{get_or, refl, sym, ap, subst, ◌∙◌}
-use Rattle.std.proofs.Math.ListN.{get_or-map}
+use Rattle.std.proofs.Common.{◌≡◌, ◌<◌, ◌+◌, ◌%◌, ◌==◌, ℕ, suc, Bool, true, false, List, [], ◌∷◌}
+use Rattle.std.proofs.Common.{◌++◌, map, length, take}
+use Rattle.std.proofs.Common.{get_or, refl, sym, subst, ◌∙◌}
 use Rattle.std.specs.Prelude.{filter, is_some, Option, Some, None, String, string_bytes, Result, Ok, Err, OnOk}
-use Rattle.std.specs.{Prelude.{codes, nat_lt, if◌then◌else◌}, Option.{unwrap_or}}
+use Rattle.std.specs.{Prelude.{codes, nat_lt, if◌then◌else◌, slice_get, IsSomeAnd}, Option.{unwrap_or}}
 use Rattle.std.specs.declared.alloc.Global.{Global}
 use Rattle.std.specs.List.{AllZip, AllByRecursion}
-use Rattle.std.proofs.lemmas.List.{append_assoc, take_more, map-append, length-map}
+use Rattle.std.proofs.lemmas.List.{append_assoc, take_more, map-append}
 use Rattle.std.proofs.lemmas.List.Elements.{filter-append}
-use Rattle.std.proofs.lemmas.Option.{slice_get-get_or}
 use Rattle.serde_json.specs.{Data.{Data, null, boolean, number, string, array, object}, Find.{get, as_object, as_str}}
 use Rattle.serde_json.specs.{View.{view}, declared.value.Value.{Value}}
 use Rattle.serde_json.specs.Read.{read}
 use Rattle.dsa_scenario.specs.Document.{IsJson}
+use Rattle.dsa_scenario.specs.declared.faults.ScenarioFault.{ScenarioFault, TheVariants.{BadStep}}
 use Rattle.dsa_scenario.specs.declared.fields.{Field.{Field}, Form.{Form}}
 use Rattle.dsa_check.specs.declared.fields.Key.{Key}
 use Rattle.dsa_check.specs.declared.finding.Reason.{Reason, TheVariants.{Missing, Misspelled, Unfit, OddDigits}}
 use Rattle.dsa_check.specs.declared.finding.Reason.TheVariants.{ManyDigits, NoDigit}
 use Rattle.dsa_check.specs.declared.finding.Finding.{Finding}
-use Rattle.dsa_check.specs.Findings.{Appends, AppendsAll, AreInCaps, IsFindingOf, IsFindingIn, IsFounded}
-use Rattle.dsa_check.specs.Findings.{AreFounded, TellsWhy}
+use Rattle.dsa_check.specs.Findings.{Appends, AppendsAll, AreInCaps, IsOfOne, IsOfAny, IsFounded, AreFounded}
 use Rattle.dsa_check.specs.Judgement.{step_items_of}
 use Rattle.dsa_check.specs.Reasons.{is_unfit, near_key, IsStrayKey, IsReasonAt, AreReasonsAt, AreReasonsOf}
 use Rattle.dsa_check.specs.Reasons.{reason_of_digits, text_reason, unfit_reason, first_no_digit, found_of, kind_row}
 use Rattle.dsa_check.specs.Reasons.{HasStrayKey, TellsNearKey, IsKindReason}
 use Rattle.dsa_scenario.specs.Fields.{Row, row_of_field}
 use Rattle.dsa_check.specs.Tables.{caps_rows}
+use Rattle.dsa_check.proofs.Items.{item_at}
 
 -- ---- lists
 
@@ -63,11 +63,6 @@ pub appends_weaker : {X : Type 0} (P Q : X → Type 0) → ((x : X) → P x → 
     → AppendsAll P old new → AppendsAll Q old new
 appends_weaker P Q f old new h = (h.0, h.1, AllByRecursion-weaker P Q f h.0 h.2)
 
-pub appends_weaker_on : {X T E : Type 0} (r : Result T E) (P Q : X → Type 0) → ((x : X) → P x → Q x)
-    → (old new : List X) → OnOk r (AppendsAll P old new) → OnOk r (AppendsAll Q old new)
-appends_weaker_on (Ok t) P Q f old new h = appends_weaker P Q f old new h
-appends_weaker_on (Err e) P Q f old new h = tt
-
 -- what was added to nothing
 pub appended_first : {X : Type 0} (P : List X → Type 0) (old new : List X) → old ≡ [] → Appends P old new → P new
 appended_first P old new none h = rw (h.1, none) h.2
@@ -91,17 +86,27 @@ inside_caps (array ds) e reasons h = cc
 inside_caps (object ms) e reasons h = h
 
 -- a finding of an item is one of the items
-pub finding_in : (bytes : List ℕ) (vs : List Value) (i : ℕ) (v : Value) → i < length vs → v ≡ get_or vs i v
-    → (finding : Finding) → IsFindingOf bytes i (view v) finding → IsFindingIn bytes (map view vs) finding
-finding_in bytes vs i v inside is finding h =
-    let inside' : i < length (map view vs) = rw (length-map vs view) inside in
-    let item : get_or (map view vs) i (view v) ≡ view v = get_or-map view vs i v ∙ ap view (sym is) in
-    (i, h.0, rw (slice_get-get_or (map view vs) i (view v) inside', item) h.1)
+of_any : (P : Finding → Data → Type 0) (vs : List Value) (i : ℕ) (v : Value) → i < length vs → v ≡ get_or vs i v
+    → (finding : Finding) → IsOfOne P i (view v) finding → IsOfAny P (map view vs) finding
+of_any P vs i v inside is finding h = (i, h.0, rw (item_at vs i v inside is) h.1)
 
--- a finding of one of the items of a document
-pub founded_in : (bytes : List ℕ) (d : Data) (finding : Finding) → IsFindingIn bytes (step_items_of d) finding
-    → IsFounded bytes d finding
-founded_in bytes d finding h = subst (TellsWhy bytes d finding) (sym h.1) h.2
+-- and so are those that are added for it
+pub appends_item : (P : Finding → Data → Type 0) (vs : List Value) (i : ℕ) (v : Value) → i < length vs
+    → v ≡ get_or vs i v → (old mid new : List Finding) → AppendsAll (IsOfAny P (map view vs)) old mid
+    → AppendsAll (IsOfOne P i (view v)) mid new → AppendsAll (IsOfAny P (map view vs)) old new
+appends_item P vs i v inside is old mid new h k =
+    appends_both (IsOfAny P (map view vs)) old mid new h
+    (appends_weaker (IsOfOne P i (view v)) (IsOfAny P (map view vs)) (of_any P vs i v inside is) mid new k)
+
+-- what is so of an item of a document is so of its part, where findings of the items are added
+pub appends_items : (P : Finding → Data → Type 0) (Q : Finding → ScenarioFault → Type 0) (d : Data) (steps : List Data)
+    → steps ≡ step_items_of d
+    → ((finding : Finding) (i : ℕ) → IsSomeAnd (slice_get (step_items_of d) i) (P finding) → Q finding (BadStep i))
+    → (old new : List Finding) → AppendsAll (IsOfAny P steps) old new
+    → AppendsAll (λ finding. Q finding finding.fault) old new
+appends_items P Q d steps is f =
+    appends_weaker (IsOfAny P steps) (λ finding. Q finding finding.fault)
+    (λ finding h. subst (Q finding) (sym h.1) (f finding h.0 (rw (← is) h.2)))
 
 -- the bytes are no other value
 pub same_value : (bytes : List ℕ) (d other : Data) → read bytes ≡ Some d → read bytes ≡ Some other → d ≡ other

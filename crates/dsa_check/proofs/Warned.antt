@@ -1,10 +1,9 @@
 -- Warnings, one part after the other.
-use Rattle.std.proofs.Common.{◌≡◌, ◌≢◌, ◌<◌, ◌+◌, ℕ, suc, true, List, [], ◌∷◌, ◌++◌, map, length, take, get_or, refl, sym, ap, subst}
-use Rattle.std.proofs.Common.{◌∙◌, Some, None, Bor, false, drop, bytes_eq, flat_map, arith, String, string_bytes}
+use Rattle.std.proofs.Common.{◌≡◌, ◌≢◌, ◌<◌, ◌+◌, ℕ, true, List, [], ◌∷◌, ◌++◌, map, length}
+use Rattle.std.proofs.Common.{take, get_or, refl, sym, subst}
+use Rattle.std.proofs.Common.{◌∙◌, Some, None, Bor, false, drop, bytes_eq, flat_map, String, string_bytes}
 use Rattle.std.specs.declared.alloc.Global.{Global}
-use Rattle.std.proofs.lemmas.List.{append_assoc, append-nil, take_more, drop_more, length-map, length-take-le}
-use Rattle.std.proofs.lemmas.Option.{slice_get-get_or}
-use Rattle.std.proofs.Math.ListN.{get_or-map}
+use Rattle.std.proofs.lemmas.List.{drop_more}
 use Rattle.std.specs.{List.{AllByRecursion, list_any}, Option.{unwrap_or}}
 use Rattle.serde_json.specs.{Data.{Data}, View.{view}, declared.value.Value.{Value}}
 use Rattle.dsa_scenario.specs.declared.{faults.ScenarioFault.{ScenarioFault}, actions.StepKind.{StepKind}}
@@ -12,11 +11,13 @@ use Rattle.dsa_scenario.specs.Document.{IsJson}
 use Rattle.json.specs.Json.{Json, document}
 use Rattle.std.specs.Prelude.{Option, Result, Ok, Err, IfOk}
 use Rattle.dsa_check.specs.declared.finding.{Finding.{Finding}, Reason.{Reason}, Judgement.{Judgement}}
-use Rattle.dsa_check.specs.{Check.{first_of, faults_warned}, Judgement.{step_items_of}, Lines.{reason_text, warning_line, warnings_text}}
+use Rattle.dsa_check.specs.Check.{first_of, faults_warned}
+use Rattle.dsa_check.specs.Lines.{reason_text, warning_line, warnings_text}
 use Rattle.dsa_check.specs.Reasons.{is_below, nearest_below}
-use Rattle.dsa_check.specs.Warnings.{is_named, Warned, warned_in, warnings_of_step, step_warnings, warnings_of_value, warnings_told}
-use Rattle.dsa_check.specs.Warnings.{IsOfStep, IsOfItem, IsOfPart, HasPlace, IsPlaceIn, AreWarningsOf}
-use Rattle.dsa_check.proofs.{Nearest.{taken, passed}, Told.{same_value}}
+use Rattle.dsa_check.specs.Warnings.{is_named, Warned, warned_in, warnings_of_step, step_warnings}
+use Rattle.dsa_check.specs.Warnings.{warnings_of_value, warnings_told}
+use Rattle.dsa_check.specs.Warnings.{IsOfPart, HasPlace, IsPlaceIn, AreWarningsOf}
+use Rattle.dsa_check.proofs.{Items.{item_more}, Nearest.{taken, passed}, Told.{same_value}}
 
 -- ---- the first of them
 
@@ -81,53 +82,14 @@ module _ (far : List ℕ → Option ℕ) (names : List (Bor (List ℕ))) (i : �
 
 -- ---- of the steps
 
-step_warnings-more : (written : Option Json) (n : ℕ) (ds : List Data) (d : Data)
-    → step_warnings written n (ds ++ d ∷ [])
-    ≡ step_warnings written n ds ++ warnings_of_step written (n + length ds) d
-step_warnings-more written n [] d =
-    let none : n + length {A = Data} [] ≡ n = omega arith in
-    rw none (append-nil _)
-step_warnings-more written n (x ∷ xs) d =
-    let next : n + length (x ∷ xs) ≡ suc n + length xs = omega arith in
-    let here = warnings_of_step written n x in
-    let rest = step_warnings written (suc n) xs in
-    let last = warnings_of_step written (suc n + length xs) d in
-    let more : step_warnings written (suc n) (xs ++ d ∷ []) ≡ rest ++ last =
-    step_warnings-more written (suc n) xs d in
-    rw next (ap (λ (ws : List Warned). here ++ ws) more ∙ sym (append_assoc here rest last))
-
 -- one item more
 pub warned_more : (written : Option Json) (vs : List Value) (i : ℕ) (v : Value) (old told : List Warned)
     → i < length vs → v ≡ get_or vs i v → told ≡ old ++ step_warnings written 0 (take i (map view vs))
     → told ++ warnings_of_step written i (view v) ≡ old ++ step_warnings written 0 (take (i + 1) (map view vs))
-warned_more written vs i v old told inside is h =
-    let inside' : i < length (map view vs) = rw (length-map vs view) inside in
-    let item : get_or (map view vs) i (view v) ≡ view v = get_or-map view vs i v ∙ ap view (sym is) in
-    let long : length (take i (map view vs)) ≡ i = length-take-le i (map view vs) (omega arith) in
-    let place : 0 + length (take i (map view vs)) ≡ i = omega arith in
-    rw (
-      h,
-      take_more (map view vs) i (view v) inside',
-      item,
-      step_warnings-more written 0 (take i (map view vs)) (view v),
-      place,
-      append_assoc,
-    ) refl
+warned_more written =
+    item_more (warnings_of_step written) (step_warnings written) (λ n. refl) (λ n d ds. refl)
 
 -- ---- places
-
--- a warning of an item is of one of the items
-pub of_item : (bytes : List ℕ) (vs : List Value) (i : ℕ) (v : Value) → i < length vs → v ≡ get_or vs i v
-    → (finding : Finding) → IsOfStep bytes i (view v) finding → IsOfItem bytes (map view vs) finding
-of_item bytes vs i v inside is finding h =
-    let inside' : i < length (map view vs) = rw (length-map vs view) inside in
-    let item : get_or (map view vs) i (view v) ≡ view v = get_or-map view vs i v ∙ ap view (sym is) in
-    (i, h.0, rw (slice_get-get_or (map view vs) i (view v) inside', item) h.1)
-
--- and so of one of the items of a document
-pub placed_in : (bytes : List ℕ) (d : Data) (finding : Finding) → IsOfItem bytes (step_items_of d) finding
-    → HasPlace bytes d finding
-placed_in bytes d finding h = subst (IsPlaceIn bytes d finding.place) (sym h.1) h.2
 
 -- a part that is no step has no place
 pub placed_as : (bytes : List ℕ) (d : Data) (part : ScenarioFault)

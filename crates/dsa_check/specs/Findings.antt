@@ -1,5 +1,6 @@
 -- What a finding tells, and that it is so of the document.
-use Rattle.std.specs.Prelude.{◌≡◌, ◌≤◌, ℕ, ◌++◌, length, true, false, List, [], ◌∷◌, slice_get, codes, Option, Some, None}
+use Rattle.std.specs.Prelude.{◌≡◌, ◌≤◌, ℕ, ◌++◌, length, true, false, List, [], ◌∷◌, slice_get}
+use Rattle.std.specs.Prelude.{codes, Option, Some, None}
 use Rattle.std.specs.Prelude.{take, drop, IsSomeAnd, IfSome, MatchOption, IsUtf8}
 use Rattle.std.specs.{List.{AllByRecursion}, Str.{IsValidUpTo}}
 use Rattle.serde_json.specs.{Data.{Data}, Find.{get, as_object}}
@@ -48,14 +49,21 @@ pub record TellsStep (bytes : List ℕ) (finding : Finding) (step : Data) : Type
   pub line : IfSome finding.place.line (BeginsOnLine bytes step)
   pub column : finding.place.column ≡ None
 
--- the finding is of item i of the steps, which is this
-abbrev pub IsFindingOf : List ℕ → ℕ → Data → Finding → Type 0
-IsFindingOf bytes i step finding = (finding.fault ≡ BadStep i) × TellsStep bytes finding step
+-- the finding is of item i of the steps, which is this, and this is so of both
+abbrev pub IsOfOne : (Finding → Data → Type 0) → ℕ → Data → Finding → Type 0
+IsOfOne P i step finding = (finding.fault ≡ BadStep i) × P finding step
 
--- the finding is of one of the items
+-- the finding is of one of the items, and this is so of both
+abbrev pub IsOfAny : (Finding → Data → Type 0) → List Data → Finding → Type 0
+IsOfAny P steps finding = (i : ℕ) × (finding.fault ≡ BadStep i) × IsSomeAnd (slice_get steps i) (P finding)
+
+-- the finding tells what is wrong with item i of the steps, which is this
+abbrev pub IsFindingOf : List ℕ → ℕ → Data → Finding → Type 0
+IsFindingOf bytes i step finding = IsOfOne (TellsStep bytes) i step finding
+
+-- it does so of one of the items
 abbrev pub IsFindingIn : List ℕ → List Data → Finding → Type 0
-IsFindingIn bytes steps finding =
-    (i : ℕ) × (finding.fault ≡ BadStep i) × IsSomeAnd (slice_get steps i) (TellsStep bytes finding)
+IsFindingIn bytes steps finding = IsOfAny (TellsStep bytes) steps finding
 
 -- the finding tells why the part has this fault
 abbrev pub TellsWhy : List ℕ → Data → Finding → ScenarioFault → Type 0

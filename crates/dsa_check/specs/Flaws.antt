@@ -1,5 +1,6 @@
 -- What is told of a text that is no JSON, and that it is so.
-use Rattle.std.specs.Prelude.{◌≡◌, ◌<◌, ◌≤◌, ◌==◌, ◌||◌, ℕ, Bool, true, false, List, [], ◌∷◌, ◌++◌, take, drop, slice_get}
+use Rattle.std.specs.Prelude.{◌≡◌, ◌<◌, ◌≤◌, ◌==◌, ◌||◌, ℕ, Bool, true, false, List, [], ◌∷◌, ◌++◌}
+use Rattle.std.specs.Prelude.{take, drop, slice_get}
 use Rattle.std.specs.Prelude.{codes, if◌then◌else◌, nat_eq, nat_lt, Option, Some, None, IfSome, IsSomeAnd, MatchOption}
 use Rattle.std.specs.Prelude.{count_by, string_bytes, ⊤}
 use Rattle.std.specs.{Char.{is_ascii_digit}, List.{ends_with, list_any, starts_with}, Str.{IsTrimAsciiEnd}}

@@ -9,7 +9,7 @@ use Rattle.std.specs.Prelude.{nat_lt, if◌then◌else◌}
 use Rattle.std.specs.Fmt.{signed_decimal}
 use Rattle.std.specs.Prelude.{String, string_bytes}
 use Rattle.std.specs.declared.alloc.Global.{Global}
-use Rattle.dsa_event_text.specs.Text.{count_text}
+use Rattle.dsa_event_text.specs.Text.{count_text, truth_text}
 use Rattle.dsa_scenario.specs.declared.faults.ScenarioFault.{ScenarioFault, TheVariants.{NotJson, BadDocument, BadStep}}
 use Rattle.dsa_scenario.specs.declared.faults.ScenarioFault.TheVariants.{BadCaps, BadCapacity}
 use Rattle.dsa_scenario.specs.declared.{fields.Form.{Form}, actions.StepKind.{StepKind}}
@@ -46,10 +46,6 @@ form_text form.Digits = codes "a text of hexadecimal digits"
 form_text form.Array = codes "an array"
 form_text form.Object = codes "an object"
 
-abbrev pub truth_text : Bool → List ℕ
-truth_text true = codes "true"
-truth_text false = codes "false"
-
 abbrev pub found_text : Found → List ℕ
 found_text found.Null = codes "null"
 found_text (found.Truth b) = truth_text b
@@ -85,11 +81,14 @@ piece_text Text = codes "a text stands here"
 piece_text Number = codes "a number stands here"
 piece_text Word = codes "a word stands here"
 
+-- what ends what begins at a place
+abbrev pub begun_text : List ℕ → ℕ → ℕ → List ℕ
+begun_text ending line column =
+    ending ++ (codes " of line " ++ (decimal line ++ (codes ", column " ++ decimal column)))
+
 abbrev pub closing_text : Bool → ℕ → ℕ → List ℕ
-closing_text true line column =
-    codes "a ] for the [ of line " ++ (decimal line ++ (codes ", column " ++ decimal column))
-closing_text false line column =
-    codes "a } for the { of line " ++ (decimal line ++ (codes ", column " ++ decimal column))
+closing_text true line column = begun_text (codes "a ] for the [") line column
+closing_text false line column = begun_text (codes "a } for the {") line column
 
 -- what may stand there
 abbrev pub wanted_text : Wanted → List ℕ
@@ -109,8 +108,7 @@ wanted_text wanted.Digit = codes "a digit"
 wanted_text wanted.NoZero = codes "a number with no 0 before its other digits"
 wanted_text wanted.InRange = codes "a number that floats of 64 bits reach"
 wanted_text wanted.DoubleQuote = codes "a double quote"
-wanted_text (wanted.Quote line column) =
-    codes "a double quote for the text of line " ++ (decimal line ++ (codes ", column " ++ decimal column))
+wanted_text (wanted.Quote line column) = begun_text (codes "a double quote for the text") line column
 wanted_text wanted.Escaped = codes "a double quote or an escape"
 wanted_text wanted.Escape = codes "one of \" \\ / b f n r t u"
 wanted_text wanted.HexDigit = codes "a hexadecimal digit"
@@ -213,9 +211,13 @@ finding_text finding = lines_of_finding finding finding.reasons.items
 abbrev pub report_text : List Finding → List ℕ
 report_text findings = flat_map finding_text findings
 
+-- the line behind a mark
+abbrev pub marked_line : List ℕ → Finding → Reason → List ℕ
+marked_line mark finding reason = mark ++ line_of_finding finding reason
+
 -- the line of a warning
 abbrev pub warning_line : Finding → Reason → List ℕ
-warning_line finding reason = codes "warning: " ++ line_of_finding finding reason
+warning_line finding reason = marked_line (codes "warning: ") finding reason
 
 abbrev pub warning_text : Finding → List ℕ
 warning_text finding = flat_map (warning_line finding) finding.reasons.items

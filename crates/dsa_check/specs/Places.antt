@@ -1,5 +1,6 @@
 -- Places in a text, and what begins there.
-use Rattle.std.specs.Prelude.{◌≡◌, ◌<◌, ◌≤◌, ◌==◌, ℕ, suc, Bool, not, List, ◌++◌, take, length, slice_get, slice_range, IsSomeAnd}
+use Rattle.std.specs.Prelude.{◌≡◌, ◌<◌, ◌≤◌, ◌==◌, ℕ, suc, Bool, not, List, ◌++◌, take, length}
+use Rattle.std.specs.Prelude.{slice_get, slice_range, IsSomeAnd}
 use Rattle.std.specs.List.{count_by, suffix_len}
 use Rattle.std.specs.Prelude.{false, Option, Some, None, ⊤}
 use Rattle.std.specs.declared.{alloc.Global.{Global}, vec.Vec.{Vec}}

@@ -1,5 +1,6 @@
 -- Keys that come more than once in one object of a text.
-use Rattle.std.specs.Prelude.{◌++◌, ◌==◌, ◌∷◌, if◌then◌else◌, ℕ, Bool, List, [], codes, bytes_eq, Option, Some, None, option_and_then}
+use Rattle.std.specs.Prelude.{◌++◌, ◌==◌, ◌∷◌, if◌then◌else◌, ℕ, Bool, List, [], codes, bytes_eq}
+use Rattle.std.specs.Prelude.{Option, Some, None, option_and_then}
 use Rattle.std.specs.{Borrow.{Bor}, BTreeSet.{BTreeSet, contains_by}, List.{count_by}}
 use Rattle.std.specs.{Ordering.{nat_cmp}, Cmp.Lexicographic.{slice_cmp}}
 use Rattle.json.specs.{Json.{Json, Members}, Find.{get, at, as_object}, Strict.{keys}}

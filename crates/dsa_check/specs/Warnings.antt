@@ -8,10 +8,11 @@ use Rattle.dsa_scenario.specs.declared.faults.ScenarioFault.{ScenarioFault, TheV
 use Rattle.dsa_scenario.specs.{declared.actions.StepKind.{StepKind}, Fields.{Row}, Actions.{rows_of_kind, kind_of}}
 use Rattle.dsa_scenario.specs.Document.{IsJson, IsNoJson}
 use Rattle.dsa_check.specs.declared.finding.{Finding.{Finding}, Place.{Place}, Reason.{Reason}}
-use Rattle.dsa_check.specs.{Findings.{IsNowhere}, Judgement.{step_items_of}, Places.{BeginsOnLine}}
+use Rattle.dsa_check.specs.{Findings.{IsNowhere, IsOfOne, IsOfAny}, Judgement.{step_items_of}, Places.{BeginsOnLine}}
 use Rattle.dsa_check.specs.Lines.{named_text, found_text, wanted_of, stray_text, twice_text, reason_text}
 use Rattle.dsa_check.specs.Reasons.{found_of, is_of_form, is_plain, distance_of, nearest, near_key, keys_of}
-use Rattle.dsa_check.specs.{Repeats.{keys_written, caps_written, step_written, keys_again}, Tables.{document_rows, caps_rows}}
+use Rattle.dsa_check.specs.Repeats.{keys_written, caps_written, step_written, keys_again}
+use Rattle.dsa_check.specs.Tables.{document_rows, caps_rows}
 use Rattle.json.specs.Json.{Json, document}
 
 -- ---- keys that are known here
@@ -168,14 +169,17 @@ pub record AreWarningsOf (bytes : List ℕ) (findings : List Finding) : Type 0 w
 
 -- ---- what is added to a list
 
+-- the place of the warning is that of the step
+abbrev pub IsPlacedAt : List ℕ → Finding → Data → Type 0
+IsPlacedAt bytes finding step = IsStepPlace bytes finding.place step
+
 -- the warning is of item i of the steps, which is this
 abbrev pub IsOfStep : List ℕ → ℕ → Data → Finding → Type 0
-IsOfStep bytes i step finding = (finding.fault ≡ BadStep i) × IsStepPlace bytes finding.place step
+IsOfStep bytes i step finding = IsOfOne (IsPlacedAt bytes) i step finding
 
 -- the warning is of one of the items
 abbrev pub IsOfItem : List ℕ → List Data → Finding → Type 0
-IsOfItem bytes steps finding =
-    (i : ℕ) × (finding.fault ≡ BadStep i) × IsSomeAnd (slice_get steps i) (IsStepPlace bytes finding.place)
+IsOfItem bytes steps finding = IsOfAny (IsPlacedAt bytes) steps finding
 
 -- the warning is of this part, which has no place
 abbrev pub IsOfPart : ScenarioFault → Finding → Type 0

@@ -6,7 +6,9 @@ use Rattle.serde_json.specs.Data.{Data, null}
 use Rattle.dsa_scenario.specs.Worked.{Fields, whole, object_of, array_of_one, fields_without, changed}
 use Rattle.dsa_scenario.specs.Worked.{some_caps, poll_step, smallest_caps_text, document_text}
 use Rattle.std.specs.declared.{alloc.Global.{Global}, vec.Vec.{Vec}}
-use Rattle.dsa_scenario.specs.declared.{faults.ScenarioFault.{ScenarioFault, TheVariants.{BadCapacity}}, fields.Form.{Form}}
+use Rattle.dsa_scenario.specs.declared.faults.ScenarioFault.{ScenarioFault}
+use Rattle.dsa_scenario.specs.declared.faults.ScenarioFault.TheVariants.{BadCapacity}
+use Rattle.dsa_scenario.specs.declared.fields.Form.{Form}
 use Rattle.dsa_check.specs.declared.checking.Check.{Check}
 use Rattle.dsa_check.specs.declared.syntax.Wanted.{Wanted}
 use Rattle.dsa_check.specs.declared.syntax.Wanted.TheVariants as wanted

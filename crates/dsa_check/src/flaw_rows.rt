@@ -1,17 +1,23 @@
 //! Worked rows of what is wrong in a text.
 
-ghost use Rattle.std.specs.Prelude.{◌≡◌, ◌++◌, ℕ, List, [], ◌∷◌, Option, Some, None, codes, map, replicate, true, false, String, string_bytes};
+ghost use Rattle.std.specs.Prelude.{◌≡◌, ◌++◌, ℕ, List, [], ◌∷◌, Option, Some, None, codes, map};
+ghost use Rattle.std.specs.Prelude.{replicate, true, false, String, string_bytes};
 ghost use Rattle.std.specs.declared.{alloc.Global.{Global}, vec.Vec.{Vec}};
 ghost use Rattle.serde_json.specs.{Data.{Data, null}, Written.{has_float}};
 ghost use Rattle.dsa_scenario.specs.Worked.{whole};
 ghost use Rattle.dsa_check.specs.declared.fields.Found.TheVariants as found;
 ghost use Rattle.dsa_check.specs.declared.finding.{Finding.{Finding}, Reason.TheVariants.{NoObject, NotUtf8, Syntax}};
 ghost use Rattle.dsa_check.specs.declared.scan.Extent.{Extent};
-ghost use Rattle.dsa_check.specs.declared.syntax.Piece.TheVariants.{End, LineBreak, Tab, Control, Character, ByteOrderMark, Told, Text, Number, Word};
+ghost use Rattle.dsa_check.specs.declared.syntax.Piece.TheVariants.{End, LineBreak, Tab, Control};
+ghost use Rattle.dsa_check.specs.declared.syntax.Piece.TheVariants.{Character, ByteOrderMark, Told};
+ghost use Rattle.dsa_check.specs.declared.syntax.Piece.TheVariants.{Text, Number, Word};
 ghost use Rattle.dsa_check.specs.declared.syntax.Syntax.TheVariants.{TooDeep, CommaBefore, Comment, Unwanted};
 ghost use Rattle.dsa_check.specs.declared.syntax.Wanted.TheVariants as wanted;
 ghost use Rattle.dsa_check.specs.Findings.{IsWrongAt, IsInText};
-ghost use Rattle.dsa_check.specs.Flaws.{name_of_sign, name_of_long, IsToldAs, IsPieceAt, example_of, IsWantedAfter, takes_text, end_of, GoesOnFrom, IsOpenFrom, HasSignAt, IsBegunAt, openings_in, IsClosing, EndWithComma, IsSyntaxAt};
+ghost use Rattle.dsa_check.specs.Flaws.{name_of_sign, name_of_long, IsToldAs, IsPieceAt};
+ghost use Rattle.dsa_check.specs.Flaws.{example_of, IsWantedAfter, takes_text, end_of, GoesOnFrom};
+ghost use Rattle.dsa_check.specs.Flaws.{IsOpenFrom, HasSignAt, IsBegunAt, openings_in, IsClosing};
+ghost use Rattle.dsa_check.specs.Flaws.{EndWithComma, IsSyntaxAt};
 ghost use Rattle.dsa_check.specs.{Places.{IsFoundBetween, IsToldWhereFound, extent_at}, Worked.{all_wanted}};
 
 /// What is told of bytes by the first of them, and how what is wanted may begin.
@@ -25,8 +31,8 @@ pub fn names_of_signs()
         ∷ (238 ∷ 187 ∷ 191 ∷ []) ∷ (239 ∷ 187 ∷ []) ∷ [])
         ≡ Some ByteOrderMark ∷ Some Character ∷ Some Character ∷ Some Character ∷ Some Character
         ∷ [] }
-    ensures long { map name_of_long (34 ∷ 45 ∷ 48 ∷ 57 ∷ 47 ∷ 58 ∷ 65 ∷ [])
-        ≡ Text ∷ Number ∷ Number ∷ Number ∷ Word ∷ Word ∷ Word ∷ [] }
+    ensures long { map name_of_long (34 ∷ 45 ∷ 48 ∷ 57 ∷ 33 ∷ 44 ∷ 47 ∷ 58 ∷ 65 ∷ [])
+        ≡ Text ∷ Number ∷ Number ∷ Number ∷ Word ∷ Word ∷ Word ∷ Word ∷ Word ∷ [] }
     ensures examples { map example_of all_wanted
         ≡ Some (codes "\"\"") ∷ Some (codes "\"\"") ∷ Some (codes "\"\"") ∷ Some (codes "\"\"")
         ∷ Some (codes "\"\":0") ∷ Some (codes "\"\":0") ∷ Some (codes ":0")
@@ -84,8 +90,8 @@ pub fn wanted_at_places()
 /// How what has begun ends, and where it goes on from.
 #[tactic(auto, unfolding(serde_json::proofs::OnLiterals::serde_json_on_literals))]
 pub fn open_places()
-    ensures ends { map end_of (91 ∷ 123 ∷ 34 ∷ 90 ∷ [])
-        ≡ codes ",0]" ∷ codes ",\"\":0}" ∷ codes "\"" ∷ codes "\"" ∷ [] }
+    ensures ends { map end_of (91 ∷ 123 ∷ 34 ∷ 90 ∷ 124 ∷ [])
+        ≡ codes ",0]" ∷ codes ",\"\":0}" ∷ codes "\"" ∷ codes "\"" ∷ codes "\"" ∷ [] }
     ensures inner { GoesOnFrom (codes "[[1") 1 91 }
     ensures outer { GoesOnFrom (codes "[[1") 0 91 → ⊥ }
     ensures ended { GoesOnFrom (codes "[[],1") 1 91 → ⊥ }
@@ -117,7 +123,7 @@ pub fn wrong_places()
     ensures no_bracket { (before : List ℕ) → IsSyntaxAt before (codes "1") TooDeep → ⊥ }
     ensures no_value { IsSyntaxAt (codes "]") (codes "[") TooDeep → ⊥ }
     ensures no_value_in_many { IsSyntaxAt (codes "]" ++ replicate 127 91) (codes "[") TooDeep → ⊥ }
-    ensures openings { map openings_in (codes "[{]}" ∷ codes "\\|z" ∷ [])
+    ensures openings { map openings_in (codes "[{]}" ∷ codes "\\|zZ" ∷ [])
         ≡ 2 ∷ 0 ∷ [] }
     ensures comma { IsSyntaxAt (codes "[1, ") (codes "]")
         (CommaBefore (record { ref_ptr = (0, 0); now = codes "]" })) }

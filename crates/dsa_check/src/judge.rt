@@ -1,22 +1,27 @@
 //! The faults of a document.
 
-ghost use Rattle.std.specs.Prelude.{◌≡◌, ◌≤◌, ℕ, length, true, false, List, ◌++◌, [], ◌∷◌, map, IsUtf8, IfOk, IfSome, OnOk};
+ghost use Rattle.std.specs.Prelude.{◌≡◌, ◌≤◌, ℕ, length, true, false, List, ◌++◌, [], ◌∷◌, map};
+ghost use Rattle.std.specs.Prelude.{IsUtf8, IfOk, IfSome, OnOk};
 ghost use Rattle.serde_json.specs.View.{view};
 ghost use Rattle.json.specs.Json.{document as document_of};
 ghost use Rattle.std.specs.List.{All, AllByRecursion};
 ghost use Rattle.dsa_scenario.specs.Actions.{action_of};
-ghost use Rattle.dsa_check.specs.Findings.{AppendsAll, IsFounded, IsWrongAt, AreOfUtf8, IsInText, IsFindingOf, IsFindingIn, AreFounded};
+ghost use Rattle.dsa_check.specs.Findings.{AppendsAll, IsFounded, IsWrongAt, AreOfUtf8, IsInText};
+ghost use Rattle.dsa_check.specs.Findings.{IsFindingOf, IsFindingIn, AreFounded};
 ghost use Rattle.dsa_check.specs.Places.{IsSpot, IsShallow};
 ghost use Rattle.dsa_check.specs.Flaws.{IsOpenFrom};
 ghost use Rattle.dsa_check.specs.Warnings.{AreWarningsOf, HasPlace, warnings_told, warnings_of_value};
-ghost use Rattle.dsa_check.specs.Judgement.{faults_told, Notes, AreFaultsOf, IsJudged, head_faults, step_items_of, caps_at, capacity_at, fault_of_step, bad_steps, caps_faults, capacity_faults, faults_of_value};
+ghost use Rattle.dsa_check.specs.Judgement.{faults_told, Notes, AreFaultsOf, IsJudged, head_faults};
+ghost use Rattle.dsa_check.specs.Judgement.{caps_at, capacity_at, fault_of_step};
+ghost use Rattle.dsa_check.specs.Judgement.{bad_steps, caps_faults, capacity_faults};
+ghost use Rattle.dsa_check.specs.Judgement.{faults_of_value};
 
 use crate::finding::{Finding, Judgement, Place, Reason, whole};
 use crate::places::{START, Spot};
 use crate::reasons::{capacity_reasons, caps_reasons, document_reasons, step_reasons};
 use crate::repeats::read_written;
 use crate::scan::{Flaw, is_json, scan_text};
-use crate::step_lines::{Steps, line_of, no_steps};
+use crate::step_lines::{Steps, items_of, line_of, no_steps};
 use crate::syntax::{end_of, syntax_of};
 use crate::tables::MAX_CAPACITY;
 use crate::warnings::warnings_in;
@@ -190,30 +195,6 @@ fn judge_items(
     Ok(())
 }
 
-// The steps of a document that has some, also where its head is none.
-fn judge_steps(
-    alloc: Global,
-    bytes: &[u8],
-    document: &Value,
-    findings: &mut Vec<Finding>,
-) -> Result<(), AllocError>
-    requires { IsShallow (view document.now) }
-    ensures faults { OnOk result
-        (Notes findings.old.items findings.new.items
-        (bad_steps 0 (step_items_of (view document.now)))) }
-    ensures told { OnOk result
-        (AppendsAll (IsFounded bytes.now (view document.now)) findings.old.items
-        findings.new.items) }
-{
-    let Some(value) = document.get("steps") else {
-        return Ok(());
-    };
-    let Some(items) = value.as_array() else {
-        return Ok(());
-    };
-    judge_items(alloc, bytes, items.as_slice(), findings)
-}
-
 // The caps, where they are read, and no device has them.
 fn judge_caps(alloc: Global, document: &Value, findings: &mut Vec<Finding>) -> Added
     ensures faults { OnOk result
@@ -250,7 +231,7 @@ fn judge_capacity(alloc: Global, document: &Value, findings: &mut Vec<Finding>) 
     Ok(())
 }
 
-// All faults of a JSON value.
+// All faults of a JSON value. Its steps are judged also where its head is none.
 fn judge_value(alloc: Global, bytes: &[u8], document: &Value) -> Result<Vec<Finding>, AllocError>
     requires { IsShallow (view document.now) }
     ensures faults { IfOk result
@@ -260,7 +241,7 @@ fn judge_value(alloc: Global, bytes: &[u8], document: &Value) -> Result<Vec<Find
 {
     let mut findings = Vec::new(alloc);
     judge_head(alloc, document, &mut findings)?;
-    judge_steps(alloc, bytes, document, &mut findings)?;
+    judge_items(alloc, bytes, items_of(document), &mut findings)?;
     judge_caps(alloc, document, &mut findings)?;
     judge_capacity(alloc, document, &mut findings)?;
     Ok(findings)

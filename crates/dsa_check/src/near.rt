@@ -1,8 +1,11 @@
 //! Names that are spelled nearly as others.
 
-ghost use Rattle.std.specs.Prelude.{◌≡◌, ◌<◌, [], ◌∷◌, bytes_eq, length, map, true, IfOk, IfSome, option_map, string_bytes, None};
+ghost use Rattle.std.specs.Prelude.{◌≡◌, ◌<◌, [], ◌∷◌, bytes_eq, length, map, true, IfOk, IfSome};
+ghost use Rattle.std.specs.Prelude.{option_map, string_bytes, None};
 ghost use Rattle.serde_json.specs.View.{view};
-ghost use Rattle.dsa_check.specs.Reasons.{is_asked, letters_of, begins_with, distance_of, stray_distance, is_below, near_key, near_kind, IsStrayKey};
+ghost use Rattle.dsa_check.specs.Reasons.{is_asked, letters_of, begins_with, distance_of};
+ghost use Rattle.dsa_check.specs.Reasons.{stray_distance, is_below, near_key, near_kind};
+ghost use Rattle.dsa_check.specs.Reasons.{IsStrayKey};
 ghost use Rattle.dsa_check.specs.Warnings.{near_name};
 ghost use Rattle.dsa_scenario.specs.Fields.{row_of_field};
 

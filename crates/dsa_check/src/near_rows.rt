@@ -1,14 +1,21 @@
 //! Worked rows of names that are spelled nearly as others.
 
-ghost use Rattle.std.specs.Prelude.{◌≡◌, ◌%◌, ℕ, [], ◌∷◌, Option, Some, None, codes, map, true, false, String, string_bytes};
+ghost use Rattle.std.specs.Prelude.{◌≡◌, ◌%◌, ℕ, [], ◌∷◌, Option, Some, None, codes, map, true};
+ghost use Rattle.std.specs.Prelude.{false, String, string_bytes};
 ghost use Rattle.std.specs.declared.alloc.Global.{Global};
 ghost use Rattle.serde_json.specs.Data.{null, array, no_items};
 ghost use Rattle.dsa_scenario.specs.Worked.{object_of, step_of_kind};
 ghost use Rattle.dsa_check.specs.declared.fields.Key.{Key};
 ghost use Rattle.dsa_check.specs.declared.finding.Reason.TheVariants.{Missing, Misspelled, UnknownKind, NotUtf8};
 ghost use Rattle.dsa_scenario.specs.declared.actions.StepKind.{StepKind};
-ghost use Rattle.dsa_scenario.specs.declared.actions.StepKind.TheVariants.{Enqcmd, Movdir, Fetch, Start, Finish, Command, Poll, Clear};
-ghost use Rattle.dsa_check.specs.Reasons.{letters_of, edits_between, most_edits, few_edits, distance_by_edits, begins_with, distance_of, is_below, nearest_below, nearest, near_kind, keys_of, stray_distance, near_key, TellsNearKey, IsNoKind, IsKindReason};
+ghost use Rattle.dsa_scenario.specs.declared.actions.StepKind.TheVariants.{Enqcmd, Movdir, Fetch};
+ghost use Rattle.dsa_scenario.specs.declared.actions.StepKind.TheVariants.{Start, Finish, Command};
+ghost use Rattle.dsa_scenario.specs.declared.actions.StepKind.TheVariants.{Poll, Clear};
+ghost use Rattle.dsa_check.specs.Reasons.{letters_of, edits_between, most_edits, few_edits};
+ghost use Rattle.dsa_check.specs.Reasons.{distance_by_edits, begins_with, distance_of, is_below};
+ghost use Rattle.dsa_check.specs.Reasons.{nearest_below, nearest, near_kind, keys_of};
+ghost use Rattle.dsa_check.specs.Reasons.{stray_distance, near_key, TellsNearKey, IsNoKind};
+ghost use Rattle.dsa_check.specs.Reasons.{IsKindReason};
 ghost use Rattle.dsa_scenario.specs.Actions.{rows_of_kind};
 
 /// Letters and digits of names, and how many edits are between two.

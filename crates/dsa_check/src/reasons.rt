@@ -1,10 +1,14 @@
 //! What is wrong with an object.
 
-ghost use Rattle.std.specs.Prelude.{◌≡◌, [], ◌∷◌, map, codes, true, false, is_some, Some, None, IfOk, OnOk, IfSome, string_bytes};
+ghost use Rattle.std.specs.Prelude.{◌≡◌, [], ◌∷◌, map, codes, true, false, is_some, Some, None};
+ghost use Rattle.std.specs.Prelude.{IfOk, OnOk, IfSome, string_bytes};
 ghost use Rattle.serde_json.specs.View.{view};
 ghost use Rattle.serde_json.specs.Find.{get, as_str};
+ghost use Rattle.dsa_check.specs.declared.finding.Reason.TheVariants.{NoObject};
 ghost use Rattle.dsa_check.specs.Findings.{Appends, AreInCaps, AreDocumentReasons};
-ghost use Rattle.dsa_check.specs.Reasons.{digits_reason, text_reason, unfit_reason, is_unfit, is_plain, is_asked, IsStrayKey, IsReasonAt, AreReasonsAt, AreReasonsOf, IsKindReason, AreStepReasons};
+ghost use Rattle.dsa_check.specs.Reasons.{digits_reason, text_reason, unfit_reason, is_unfit};
+ghost use Rattle.dsa_check.specs.Reasons.{is_plain, is_asked, IsStrayKey, IsReasonAt, AreReasonsAt};
+ghost use Rattle.dsa_check.specs.Reasons.{found_of, AreReasonsOf, IsKindReason, AreStepReasons};
 ghost use Rattle.dsa_scenario.specs.{Fields.{row_of_field}, Actions.{kind_of}};
 ghost use Rattle.dsa_check.specs.Tables.{device_rows, history_rows};
 
@@ -160,19 +164,25 @@ fn kind_reason(alloc: Global, step: &Value) -> Result<Reason, AllocError>
     }
 }
 
+// What is wrong with a value that is no object.
+fn no_object(alloc: Global, value: &Value) -> Result<Vec<Reason>, AllocError>
+    ensures { IfOk result (λ reasons. reasons.items ≡ NoObject (found_of (view value.now)) ∷ []) }
+{
+    let found = found_in(value);
+    Ok(vec![in alloc; Reason::NoObject { found }]?)
+}
+
 /// What is wrong with an item of the steps.
 pub fn step_reasons(alloc: Global, step: &Value) -> Result<Vec<Reason>, AllocError>
     ensures { IfOk result (λ reasons. AreStepReasons (view step.now) reasons.items) }
 {
-    let mut reasons = Vec::new(alloc);
     if step.as_object().is_none() {
-        let found = found_in(step);
-        reasons.push(Reason::NoObject { found })?;
-    } else {
-        match kind_of(step) {
-            Some(kind) => add_reasons(alloc, step, kind.fields(), false, &mut reasons)?,
-            None => reasons.push(kind_reason(alloc, step)?)?,
-        }
+        return no_object(alloc, step);
+    }
+    let mut reasons = Vec::new(alloc);
+    match kind_of(step) {
+        Some(kind) => add_reasons(alloc, step, kind.fields(), false, &mut reasons)?,
+        None => reasons.push(kind_reason(alloc, step)?)?,
     }
     Ok(reasons)
 }
@@ -197,12 +207,10 @@ fn add_caps_reasons(
 pub fn document_reasons(alloc: Global, document: &Value) -> Result<Vec<Reason>, AllocError>
     ensures { IfOk result (λ reasons. AreDocumentReasons (view document.now) reasons.items) }
 {
-    let mut reasons = Vec::new(alloc);
     if document.as_object().is_none() {
-        let found = found_in(document);
-        reasons.push(Reason::NoObject { found })?;
-        return Ok(reasons);
+        return no_object(alloc, document);
     }
+    let mut reasons = Vec::new(alloc);
     add_reasons(alloc, document, &DOCUMENT, false, &mut reasons)?;
     add_caps_reasons(alloc, document, &mut reasons)?;
     Ok(reasons)

@@ -1,6 +1,7 @@
 //! Keys that come more than once in one object of a text.
 
-ghost use Rattle.std.specs.Prelude.{◌≡◌, ◌&&◌, ◌||◌, ℕ, List, not, bytes_eq, option_map, option_and_then, IsUtf8, IfOk, OnOk};
+ghost use Rattle.std.specs.Prelude.{◌≡◌, ◌&&◌, ◌||◌, ℕ, List, not, bytes_eq, option_map};
+ghost use Rattle.std.specs.Prelude.{option_and_then, IsUtf8, IfOk, OnOk};
 ghost use Rattle.json.specs.{Json.{document}, Value.{value_view, members_view}, Find.{as_object}};
 ghost use Rattle.dsa_check.specs.Repeats.{caps_written, step_written, has_text};
 

@@ -2,12 +2,18 @@
 
 ghost use Rattle.std.specs.Prelude.{◌≡◌, ◌++◌, Some, IfOk, codes, decimal, string_bytes, flat_map, option_map};
 ghost use Rattle.dsa_event_text.specs.Added.{Adds};
-ghost use Rattle.dsa_check.specs.Lines.{digits_text, key_text, whole_range_text, form_text, found_text, bound_text, wanted_of, piece_text, closing_text, wanted_text, syntax_text, near_kind_text, no_kind_text, stray_text, twice_text, reason_text, known_number_text, step_text, fault_part_text, place_text, line_of_finding, bare_line, finding_text, report_text, warning_line, warning_text, warnings_text};
+ghost use Rattle.dsa_check.specs.Lines.{digits_text, key_text, whole_range_text, form_text};
+ghost use Rattle.dsa_check.specs.Lines.{found_text, bound_text, wanted_of, piece_text};
+ghost use Rattle.dsa_check.specs.Lines.{begun_text, closing_text, wanted_text, syntax_text, near_kind_text};
+ghost use Rattle.dsa_check.specs.Lines.{no_kind_text, stray_text, twice_text, reason_text};
+ghost use Rattle.dsa_check.specs.Lines.{known_number_text, step_text, fault_part_text, place_text};
+ghost use Rattle.dsa_check.specs.Lines.{line_of_finding, bare_line, marked_line, finding_text};
+ghost use Rattle.dsa_check.specs.Lines.{report_text, warnings_text};
 
 use crate::fields::{Found, Key};
 use crate::finding::{Finding, Reason};
 use crate::syntax::{Piece, Syntax, Wanted};
-use dsa_event_text::{Added, add_count};
+use dsa_event_text::{Added, add_count, truth_text};
 use dsa_scenario::{Form, KIND_NAMES, ScenarioFault, StepKind};
 use std::alloc::{AllocError, Global};
 use std::fmt::Write;
@@ -44,8 +50,7 @@ fn add_found(text: &mut String, found: Found) -> Added
 {
     match found {
         Found::Null => text.push_str("null"),
-        Found::Truth(true) => text.push_str("true"),
-        Found::Truth(false) => text.push_str("false"),
+        Found::Truth(truth) => text.push_str(truth_text(truth)),
         Found::Whole(number) => write!(text, "{number}"),
         Found::Below(number) => write!(text, "{number}"),
         Found::Number => {
@@ -109,14 +114,21 @@ fn add_piece(text: &mut String, piece: &Piece) -> Added
     }
 }
 
-// The end of an array or an object, and where that begins.
+// What ends what begins at a place.
+fn add_begun(text: &mut String, ending: &str, line: usize, column: usize) -> Added
+    ensures { Adds result text.old text.new (begun_text ending.now line column) }
+{
+    write!(text, "{ending} of line {line}, column {column}")
+}
+
+// What ends an array or an object.
 fn add_closing(text: &mut String, is_array: bool, line: usize, column: usize) -> Added
     ensures { Adds result text.old text.new (closing_text is_array line column) }
 {
     if is_array {
-        write!(text, "a ] for the [ of line {line}, column {column}")
+        add_begun(text, "a ] for the [", line, column)
     } else {
-        write!(text, "a }} for the {{ of line {line}, column {column}")
+        add_begun(text, "a } for the {", line, column)
     }
 }
 
@@ -145,10 +157,7 @@ fn add_syntax_wanted(text: &mut String, wanted: Wanted) -> Added
         Wanted::InRange => text.push_str("a number that floats of 64 bits reach"),
         Wanted::DoubleQuote => text.push_str("a double quote"),
         Wanted::Quote { line, column } => {
-            write!(
-                text,
-                "a double quote for the text of line {line}, column {column}"
-            )
+            add_begun(text, "a double quote for the text", line, column)
         }
         Wanted::Escaped => text.push_str("a double quote or an escape"),
         Wanted::Escape => text.push_str("one of \" \\ / b f n r t u"),
@@ -352,16 +361,33 @@ fn add_bare(text: &mut String, finding: &Finding) -> Added
     text.push_str("not understood\n")
 }
 
+// A line that begins with this mark.
+fn add_marked(text: &mut String, mark: &str, finding: &Finding, reason: &Reason) -> Added
+    ensures { Adds result text.old text.new (marked_line mark.now finding.now reason.now) }
+{
+    text.push_str(mark)?;
+    add_line(text, finding, reason)
+}
+
+// Such a line for each reason.
+fn add_lines(text: &mut String, mark: &str, finding: &Finding) -> Added
+    ensures { Adds result text.old text.new
+        (flat_map (marked_line mark.now finding.now) finding.now.reasons.items) }
+{
+    for reason in &finding.reasons {
+        add_marked(text, mark, finding, reason)?;
+    }
+    Ok(())
+}
+
 fn add_finding(text: &mut String, finding: &Finding) -> Added
     ensures { Adds result text.old text.new (finding_text finding.now) }
 {
     if finding.reasons.is_empty() {
-        return add_bare(text, finding);
+        add_bare(text, finding)
+    } else {
+        add_lines(text, "", finding)
     }
-    for reason in &finding.reasons {
-        add_line(text, finding, reason)?;
-    }
-    Ok(())
 }
 
 // The lines of these findings: one for each reason of each.
@@ -374,28 +400,12 @@ fn add_findings(text: &mut String, findings: &[Finding]) -> Added
     Ok(())
 }
 
-fn add_warning_line(text: &mut String, finding: &Finding, reason: &Reason) -> Added
-    ensures { Adds result text.old text.new (warning_line finding.now reason.now) }
-{
-    text.push_str("warning: ")?;
-    add_line(text, finding, reason)
-}
-
-fn add_warning(text: &mut String, finding: &Finding) -> Added
-    ensures { Adds result text.old text.new (warning_text finding.now) }
-{
-    for reason in &finding.reasons {
-        add_warning_line(text, finding, reason)?;
-    }
-    Ok(())
-}
-
 // The lines of these warnings: one for each reason of each.
 fn add_warnings(text: &mut String, warnings: &[Finding]) -> Added
     ensures { Adds result text.old text.new (warnings_text warnings.now) }
 {
     for warning in warnings {
-        add_warning(text, warning)?;
+        add_lines(text, "warning: ", warning)?;
     }
     Ok(())
 }

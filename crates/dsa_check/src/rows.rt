@@ -1,28 +1,54 @@
 //! Worked documents: the faults that the definitions find at chosen values, by computation.
 
-ghost use Rattle.std.specs.Prelude.{◌≡◌, ◌++◌, ℕ, [], ◌∷◌, true, false, Option, Some, None, codes, map, replicate, negsuc, String, string_bytes};
+ghost use Rattle.std.specs.Prelude.{◌≡◌, ◌++◌, ℕ, [], ◌∷◌, true, false, Option, Some, None, codes};
+ghost use Rattle.std.specs.Prelude.{List, map, replicate, negsuc, String, string_bytes};
 ghost use Rattle.std.specs.declared.{alloc.Global.{Global}, vec.Vec.{Vec}};
 ghost use Rattle.serde_json.specs.Data.{Data, depth, null, boolean, string, array, no_items, item};
-ghost use Rattle.dsa_scenario.specs.declared.faults.ScenarioFault.TheVariants.{NotJson, BadDocument, BadStep, BadCaps, BadCapacity, Read};
-ghost use Rattle.dsa_scenario.specs.Worked.{whole, object_of, fields_without, changed, step_of_kind, some_caps, poll_step, queue_step, group_step, enqcmd_step, dispatch_step, start_step, finish_step, command_step, clear_step, no_caps_text, document_text};
+ghost use Rattle.dsa_scenario.specs.declared.faults.ScenarioFault.TheVariants.{NotJson};
+ghost use Rattle.dsa_scenario.specs.declared.faults.ScenarioFault.TheVariants.{BadDocument};
+ghost use Rattle.dsa_scenario.specs.declared.faults.ScenarioFault.TheVariants.{BadStep, BadCaps};
+ghost use Rattle.dsa_scenario.specs.declared.faults.ScenarioFault.TheVariants.{BadCapacity, Read};
+ghost use Rattle.dsa_scenario.specs.Worked.{whole, object_of, fields_without, changed};
+ghost use Rattle.dsa_scenario.specs.Worked.{step_of_kind, some_caps, poll_step, queue_step};
+ghost use Rattle.dsa_scenario.specs.Worked.{group_step, enqcmd_step, dispatch_step, start_step};
+ghost use Rattle.dsa_scenario.specs.Worked.{finish_step, command_step, clear_step, no_caps_text};
+ghost use Rattle.dsa_scenario.specs.Worked.{document_text};
 ghost use Rattle.dsa_check.specs.declared.fields.Key.{Key};
 ghost use Rattle.dsa_scenario.specs.declared.fields.Form.TheVariants as form;
 ghost use Rattle.dsa_check.specs.declared.fields.Found.TheVariants as found;
 ghost use Rattle.dsa_check.specs.declared.finding.{Finding.{Finding}, Reason.{Reason}};
-ghost use Rattle.dsa_check.specs.declared.finding.Reason.TheVariants.{Missing, Misspelled, Unfit, OddDigits, ManyDigits, NoDigit, NoObject, UnknownKind, NotUtf8, Syntax};
+ghost use Rattle.dsa_check.specs.declared.finding.Reason.TheVariants.{Missing, Misspelled, Unfit};
+ghost use Rattle.dsa_check.specs.declared.finding.Reason.TheVariants.{OddDigits, ManyDigits};
+ghost use Rattle.dsa_check.specs.declared.finding.Reason.TheVariants.{NoDigit, NoObject};
+ghost use Rattle.dsa_check.specs.declared.finding.Reason.TheVariants.{UnknownKind, NotUtf8};
+ghost use Rattle.dsa_check.specs.declared.finding.Reason.TheVariants.{Stray, Syntax};
 ghost use Rattle.dsa_scenario.specs.declared.actions.StepKind.TheVariants.{Queue, Enqcmd, Fetch, Finish, Poll};
-ghost use Rattle.dsa_check.specs.declared.syntax.Piece.TheVariants.{End, LineBreak, Tab, Control, Character, ByteOrderMark, Told, Text, Number, Word};
+ghost use Rattle.dsa_check.specs.declared.syntax.Piece.TheVariants.{End, LineBreak, Tab, Control};
+ghost use Rattle.dsa_check.specs.declared.syntax.Piece.TheVariants.{Character, ByteOrderMark, Told};
+ghost use Rattle.dsa_check.specs.declared.syntax.Piece.TheVariants.{Text, Number, Word};
 ghost use Rattle.dsa_check.specs.declared.syntax.Syntax.TheVariants.{TooDeep, CommaBefore, Comment, Unwanted};
 ghost use Rattle.dsa_check.specs.declared.syntax.Wanted.TheVariants as wanted;
-ghost use Rattle.dsa_check.specs.Findings.{AreDocumentReasons, IsNowhere, IsFindingOf, IsFindingIn, TellsWhy, Appends, AppendsAll};
-ghost use Rattle.dsa_check.specs.Judgement.{capacity_at, faults_of_value, fault_of_head, fault_of_step, caps_faults, capacity_faults, AreFaultsOf, IsRight};
+ghost use Rattle.dsa_check.specs.Findings.{AreDocumentReasons, IsNowhere, IsFindingOf, IsFindingIn};
+ghost use Rattle.dsa_check.specs.Findings.{TellsWhy, Appends, AppendsAll};
+ghost use Rattle.dsa_check.specs.Judgement.{capacity_at, faults_of_value, fault_of_head};
+ghost use Rattle.dsa_check.specs.Judgement.{fault_of_step, caps_faults, capacity_faults};
+ghost use Rattle.dsa_check.specs.Judgement.{AreFaultsOf, IsRight};
 ghost use Rattle.dsa_check.specs.Check.{IsCheckReportOf};
-ghost use Rattle.dsa_check.specs.Lines.{key_text, form_text, found_text, wanted_of, piece_text, wanted_text, syntax_text, no_kind_text, reason_text, fault_part_text, place_text, line_of_finding, bare_line};
-ghost use Rattle.dsa_check.specs.Places.{line_after, column_after, IsSpot, BeginJson, IsShallow, AreTextOf, BeginsOnLine};
-ghost use Rattle.dsa_check.specs.Reasons.{is_asked, is_between, is_of_form, is_plain, has_caps, is_step, kind_row, found_number, found_of, digits_reason, text_reason, IsReasonOf, IsStrayKey, HasStrayKey, IsKindReason, AreReasonsOf, AreStepReasons};
+ghost use Rattle.dsa_check.specs.Lines.{key_text, form_text, found_text, wanted_of, piece_text};
+ghost use Rattle.dsa_check.specs.Lines.{wanted_text, syntax_text, no_kind_text, reason_text};
+ghost use Rattle.dsa_check.specs.Lines.{fault_part_text, place_text, line_of_finding, bare_line};
+ghost use Rattle.dsa_check.specs.Places.{line_after, column_after, IsSpot, BeginJson, IsShallow};
+ghost use Rattle.dsa_check.specs.Places.{AreTextOf, BeginsOnLine};
+ghost use Rattle.dsa_check.specs.Reasons.{is_asked, is_between, is_of_form, is_plain, has_caps};
+ghost use Rattle.dsa_check.specs.Reasons.{is_step, kind_row, found_number, found_of, digits_reason};
+ghost use Rattle.dsa_check.specs.Reasons.{text_reason, IsReasonOf, IsStrayKey, HasStrayKey};
+ghost use Rattle.dsa_check.specs.Reasons.{IsKindReason, AreReasonsOf, AreStepReasons};
 ghost use Rattle.dsa_scenario.specs.{Fields.{bits}, Actions.{kinds, rows_of_kind, names_text}};
 ghost use Rattle.dsa_check.specs.Tables.{document_rows, caps_rows, device_rows, history_rows};
-ghost use Rattle.dsa_check.specs.Worked.{plain_check, IsNoReason, IsUntold, right_document, unfit_keys, unfit_keys_of, key_of_caps, key_of_a_step, found_at, document_of_slots, document_of_null, document_without_slots, right_text};
+ghost use Rattle.dsa_check.specs.Worked.{plain_check, strict_check, IsNoReason, IsUntold};
+ghost use Rattle.dsa_check.specs.Worked.{right_document, unfit_keys, unfit_keys_of, key_of_caps};
+ghost use Rattle.dsa_check.specs.Worked.{found_at, document_of_slots, document_of_null};
+ghost use Rattle.dsa_check.specs.Worked.{key_of_a_step, document_without_slots, right_text};
 
 /// Each part of a document has its fault; the others are looked at also where one is missing.
 pub fn faults_of_each_part()
@@ -52,9 +78,9 @@ pub fn faults_in_order()
     ensures without_caps { faults_of_value
         (object_of
         ((codes "capacity", whole 1048577)
-        ∷ (codes "steps", array (item null no_items))
+        ∷ (codes "steps", array (item null (item null no_items)))
         ∷ []))
-        ≡ BadDocument ∷ BadStep 0 ∷ BadCapacity ∷ [] }
+        ≡ BadDocument ∷ BadStep 0 ∷ BadStep 1 ∷ BadCapacity ∷ [] }
     ensures three { faults_of_value
         (object_of
         ((codes "caps", changed (codes "queues") (whole 65) some_caps)
@@ -317,6 +343,9 @@ pub fn texts_of_reasons()
     ensures misspelled { (text : String Global)
         → reason_text (Misspelled key_of_a_step text)
         ≡ codes "\"desc\" is missing, and \"" ++ (string_bytes text ++ codes "\" is no key here") }
+    ensures stray { (text : String Global)
+        → reason_text (Stray (Some text) (Some (record { ref_ptr = (0, 0); now = codes "slots" })))
+        ≡ codes "\"" ++ (string_bytes text ++ codes "\" is no key here, but \"slots\" is") }
     ensures near { (text : String Global)
         → no_kind_text (Some text) (Some Poll)
         ≡ codes "\"do\" is \""
@@ -575,6 +604,9 @@ pub fn faults_of_texts()
     ensures report { IsCheckReportOf plain_check right_text None [] }
     ensures right_with_a_fault { IsCheckReportOf plain_check right_text (Some BadCaps) [] → ⊥ }
     ensures right_with_a_line { IsCheckReportOf plain_check right_text None (codes "1") → ⊥ }
+    ensures warning_before_a_fault { (text : List ℕ)
+        → IsCheckReportOf strict_check (codes "{\"caps\":{\"z\":0}}") (Some BadCaps) text
+        → ⊥ }
     ensures second_untold { IsCheckReportOf plain_check
         (document_text no_caps_text (codes "1048577") [])
         (Some BadCaps)

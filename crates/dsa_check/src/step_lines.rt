@@ -1,8 +1,11 @@
 //! Where the steps of a document stand in its text.
 
-ghost use Rattle.std.specs.Prelude.{◌≡◌, ℕ, List, None, true, false, slice_range, IfOk, IfSome};
+ghost use Rattle.std.specs.Prelude.{◌≡◌, ℕ, List, None, true, false, map, slice_range, IfOk, IfSome};
+ghost use Rattle.std.specs.List.{All};
 ghost use Rattle.serde_json.specs.{View.{view}, Written.{has_float}};
-ghost use Rattle.dsa_check.specs.Places.{IsSpot, IsShallow, AreTextOf, BeginsOnLine, IsFoundBetween, IsToldWhereFound, extent_at};
+ghost use Rattle.dsa_check.specs.Judgement.{step_items_of};
+ghost use Rattle.dsa_check.specs.Places.{IsSpot, IsShallow, AreTextOf, BeginsOnLine};
+ghost use Rattle.dsa_check.specs.Places.{IsFoundBetween, IsToldWhereFound, extent_at};
 
 use crate::places::{START, Spot};
 use crate::scan::{Extent, scan_text};
@@ -16,6 +19,21 @@ pub struct Steps {
     pub extents: Option<Vec<Extent>>,
     /// Where the last one that was asked for begins.
     pub spot: Spot,
+}
+
+/// The items of a document's steps; none where it has no list of them.
+pub fn items_of(document: &Value) -> &[Value]
+    requires { IsShallow (view document.now) }
+    ensures items { map view result.now ≡ step_items_of (view document.now) }
+    ensures shallow { All (λ item. IsShallow (view item)) result.now }
+{
+    let Some(value) = document.get("steps") else {
+        return &[];
+    };
+    let Some(items) = value.as_array() else {
+        return &[];
+    };
+    items.as_slice()
 }
 
 /// None of them has been asked for.

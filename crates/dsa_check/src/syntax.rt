@@ -1,7 +1,10 @@
 //! What is wrong with a text that is no JSON.
 
 ghost use Rattle.std.specs.Prelude.{◌≡◌, true, IfOk, option_map, codes, Some};
-ghost use Rattle.dsa_check.specs.Flaws.{name_of_sign, name_of_long, IsToldAs, IsPieceAt, takes_text, example_of, IsWantedAfter, is_opening, openings_in, EndWithComma, end_of, IsOpenFrom, IsBegunAt, IsSyntaxAt};
+ghost use Rattle.dsa_check.specs.Flaws.{name_of_sign, name_of_long, IsToldAs, IsPieceAt};
+ghost use Rattle.dsa_check.specs.Flaws.{takes_text, example_of, IsWantedAfter, is_opening};
+ghost use Rattle.dsa_check.specs.Flaws.{openings_in, EndWithComma, end_of, IsOpenFrom, IsBegunAt};
+ghost use Rattle.dsa_check.specs.Flaws.{IsSyntaxAt};
 ghost use Rattle.dsa_check.specs.Places.{IsSpot};
 ghost use Rattle.dsa_check.specs.Reasons.{is_plain};
 

@@ -7,7 +7,8 @@ ghost use Rattle.dsa_scenario.specs.declared.faults.ScenarioFault.TheVariants.{B
 ghost use Rattle.dsa_scenario.specs.declared.fields.Form.TheVariants as form;
 ghost use Rattle.dsa_scenario.specs.declared.actions.StepKind.TheVariants.{Clear, Movdir, Poll};
 ghost use Rattle.dsa_scenario.specs.Actions.{rows_of_kind};
-ghost use Rattle.dsa_scenario.specs.Worked.{whole, object_of, fields_without, changed, some_caps, poll_step, clear_step, movdir_step};
+ghost use Rattle.dsa_scenario.specs.Worked.{whole, object_of, fields_without, changed, some_caps};
+ghost use Rattle.dsa_scenario.specs.Worked.{poll_step, clear_step, movdir_step};
 ghost use Rattle.dsa_check.specs.declared.finding.{Finding.{Finding}, Reason.{Reason}};
 ghost use Rattle.dsa_check.specs.declared.finding.Reason.TheVariants.{NotUtf8};
 ghost use Rattle.dsa_check.specs.Check.{first_of, faults_warned};
@@ -16,8 +17,13 @@ ghost use Rattle.json.specs.Json as json;
 ghost use Rattle.dsa_check.specs.Lines.{stray_text, twice_text, warning_line};
 ghost use Rattle.dsa_check.specs.Repeats.{keys_written, how_often, keys_again};
 ghost use Rattle.dsa_check.specs.Tables.{document_rows};
-ghost use Rattle.dsa_check.specs.Warnings.{names_of, remark_names, step_names, is_named, list_of, told_keys, is_stray, plain_key, near_name, step_texts, caps_warnings, warnings_of_value, warned_in, IsStepPlace, HasPlace, AreWarningsOf};
-ghost use Rattle.dsa_check.specs.Worked.{right_document, found_at, document_of_null, written_object, keys_in_caps, written_twice};
+ghost use Rattle.dsa_check.specs.Warnings.{names_of, remark_names, step_names, is_named, list_of};
+ghost use Rattle.dsa_check.specs.Warnings.{told_keys, is_stray, plain_key, near_name, stray_texts};
+ghost use Rattle.dsa_check.specs.Warnings.{step_texts, object_texts, caps_warnings};
+ghost use Rattle.dsa_check.specs.Warnings.{warnings_of_value, warned_in};
+ghost use Rattle.dsa_check.specs.Warnings.{IsStepPlace, HasPlace, AreWarningsOf};
+ghost use Rattle.dsa_check.specs.Worked.{right_document, found_at, document_of_null};
+ghost use Rattle.dsa_check.specs.Worked.{written_object, keys_in_caps, written_twice};
 
 /// Each part of a document has its warnings: the document, its caps and its steps, in this order.
 #[tactic(auto, unfolding(crate::specs::Worked::near_on_literals))]
@@ -108,8 +114,13 @@ pub fn keys_that_nothing_reads()
     ensures plain { map plain_key (replicate 40 65 ∷ replicate 41 65 ∷ codes "a\n" ∷ [])
         ≡ Some (replicate 40 65) ∷ None ∷ None ∷ [] }
     ensures near { map (near_name (codes "word" ∷ codes "zf" ∷ codes "note" ∷ []))
-        (codes "Z-F" ∷ codes "wrd" ∷ codes "nothing" ∷ codes "notes" ∷ [])
-        ≡ Some (codes "zf") ∷ Some (codes "word") ∷ None ∷ Some (codes "note") ∷ [] }
+        (codes "Z-F" ∷ codes "wrd" ∷ codes "nothing" ∷ codes "notes" ∷ codes "notebook" ∷ [])
+        ≡ Some (codes "zf") ∷ Some (codes "word") ∷ None ∷ Some (codes "note")
+        ∷ Some (codes "note") ∷ [] }
+    ensures near_none { near_name (codes "word" ∷ []) (codes "word\n") ≡ None }
+    ensures nearest { stray_texts (object_of ((codes "ward", null) ∷ (codes "word", null) ∷ []))
+        ((codes "word", form.Text) ∷ []) (codes "wand" ∷ [])
+        ≡ codes "\"ward\" is no key here, but \"word\" is" ∷ [] }
 {}
 
 /// Keys that come more than once in an object of the text: each is told once, after all else.
@@ -132,6 +143,16 @@ pub fn keys_that_come_twice()
     ensures step { step_texts (codes "do" ∷ codes "a" ∷ codes "do" ∷ [])
         (object_of ((codes "a", null) ∷ poll_step))
         ≡ codes "\"a\" is no key here" ∷ codes "\"do\" comes twice" ∷ [] }
+    ensures after_all { step_texts (codes "do" ∷ codes "do" ∷ [])
+        (object_of ((codes "a\n", null) ∷ (codes "zf", null) ∷ (codes "answer", null) ∷ poll_step))
+        ≡ codes "\"answer\" is null, a text is wanted"
+        ∷ codes "\"zf\" is null, true or false is wanted"
+        ∷ codes "a key that is long or not plain is no key here"
+        ∷ codes "\"do\" comes twice" ∷ [] }
+    ensures object { object_texts (codes "capacity" ∷ codes "capacity" ∷ [])
+        (object_of ((codes "a\n", null) ∷ right_document)) document_rows
+        ≡ codes "a key that is long or not plain is no key here"
+        ∷ codes "\"capacity\" comes twice" ∷ [] }
     ensures no_kind { step_texts (codes "a" ∷ codes "a" ∷ [])
         (object_of ((codes "a", null) ∷ []))
         ≡ codes "\"a\" comes twice" ∷ [] }
@@ -188,5 +209,9 @@ pub fn places_of_warnings()
     ensures no_json { AreWarningsOf (codes "{") [] }
     ensures one { (finding : Finding) → AreWarningsOf (codes "{") (finding ∷ []) → ⊥ }
     ensures plain { (warnings : List Finding) → faults_warned false warnings ≡ [] }
+    ensures strict { (finding : Finding)
+        → finding.fault ≡ BadCaps
+        → finding.reasons.items ≡ NotUtf8 ∷ NotUtf8 ∷ []
+        → faults_warned true (finding ∷ []) ≡ BadCaps ∷ BadCaps ∷ [] }
     ensures silent { first_of (faults_warned true []) ≡ None }
 {}

@@ -1,23 +1,29 @@
 //! What is odd in a document, and no fault of it.
 
-ghost use Rattle.std.specs.Prelude.{◌≡◌, ◌++◌, ◌&&◌, ◌||◌, ◌∷◌, if◌then◌else◌, not, bytes_eq, ℕ, List, [], map, codes, string_bytes, option_map, None, IfOk, OnOk};
+ghost use Rattle.std.specs.Prelude.{◌≡◌, ◌++◌, ◌&&◌, ◌||◌, ◌∷◌, if◌then◌else◌, not, bytes_eq, ℕ};
+ghost use Rattle.std.specs.Prelude.{List, [], map, codes, string_bytes, option_map, None, IfOk};
+ghost use Rattle.std.specs.Prelude.{OnOk};
 ghost use Rattle.std.specs.List.{All, AllByRecursion};
 ghost use Rattle.serde_json.specs.{View.{view}, Find.{get}};
 ghost use Rattle.json.specs.Value.{value_view};
 ghost use Rattle.dsa_scenario.specs.Fields.{row_of_field};
 ghost use Rattle.dsa_check.specs.Repeats.{keys_written, has_text};
 ghost use Rattle.dsa_check.specs.Findings.{AppendsAll};
-ghost use Rattle.dsa_check.specs.Judgement.{step_items_of};
 ghost use Rattle.dsa_check.specs.Lines.{reason_text};
 ghost use Rattle.dsa_check.specs.Places.{IsSpot, IsShallow};
-ghost use Rattle.dsa_check.specs.Warnings.{names_of, remark_names, is_named, told_for, told_keys, is_stray, stray_key_text, stray_texts, twice_key_text, twice_texts, object_texts, odd_at, warned_in, step_texts, warnings_of_step, step_warnings, caps_warnings, warnings_of_value, warnings_told, HasPlace, IsOfStep, IsOfItem, IsOfPart, Tells, Warns};
+ghost use Rattle.dsa_check.specs.Warnings.{names_of, remark_names, is_named, told_for, told_keys};
+ghost use Rattle.dsa_check.specs.Warnings.{is_stray, stray_key_text, stray_texts, twice_key_text};
+ghost use Rattle.dsa_check.specs.Warnings.{twice_texts, object_texts, odd_at, warned_in};
+ghost use Rattle.dsa_check.specs.Warnings.{step_texts, warnings_of_step, step_warnings};
+ghost use Rattle.dsa_check.specs.Warnings.{caps_warnings, warnings_of_value, warnings_told};
+ghost use Rattle.dsa_check.specs.Warnings.{HasPlace, IsOfStep, IsOfItem, IsOfPart, Tells, Warns};
 
 use crate::fields::{Key, found_in, is_of};
 use crate::finding::{Finding, Place, Reason, whole};
 use crate::near::{near_key, near_name};
 use crate::reasons::plain_name;
 use crate::repeats::{caps_written, members_of, note_key, step_written};
-use crate::step_lines::{Steps, line_of, no_steps};
+use crate::step_lines::{Steps, items_of, line_of, no_steps};
 use crate::tables::{CAPS, DOCUMENT};
 use dsa_scenario::{Field, Form, ScenarioFault, kind_of};
 use json::Value as Written;
@@ -299,32 +305,6 @@ fn warn_of_items(
     Ok(())
 }
 
-// Adds those of the steps of a document that has some.
-fn warn_of_steps(
-    alloc: Global,
-    bytes: &[u8],
-    document: &Value,
-    written: Option<&Written<'_>>,
-    warnings: &mut Vec<Finding>,
-) -> Result<(), AllocError>
-    requires { IsShallow (view document.now) }
-    ensures all { OnOk result
-        (Warns warnings.old.items warnings.new.items
-        (step_warnings (option_map (λ v. value_view v.now) written.entry) 0
-        (step_items_of (view document.now)))) }
-    ensures placed { OnOk result
-        (AppendsAll (HasPlace bytes.now (view document.now)) warnings.old.items
-        warnings.new.items) }
-{
-    let Some(value) = document.get("steps") else {
-        return Ok(());
-    };
-    let Some(items) = value.as_array() else {
-        return Ok(());
-    };
-    warn_of_items(alloc, bytes, items.as_slice(), written, warnings)
-}
-
 // Adds the keys of the document or of its caps that nothing reads.
 fn warn_of_keys(
     alloc: Global,
@@ -392,6 +372,6 @@ pub fn warnings_in(
     let part = ScenarioFault::BadDocument;
     warn_of_keys(alloc, part, document, &DOCUMENT, written, &mut warnings)?;
     warn_of_caps(alloc, document, written, &mut warnings)?;
-    warn_of_steps(alloc, bytes, document, written, &mut warnings)?;
+    warn_of_items(alloc, bytes, items_of(document), written, &mut warnings)?;
     Ok(warnings)
 }

@@ -1,12 +1,16 @@
 -- Only a client's steps accept a descriptor.
 use Rattle.dsa_book.specs.declared.event.Event.TheVariants as event
-use Rattle.std.proofs.Common.{◌≡◌, ℕ, List, [], ◌∷◌, Bool, true, false, cond, Option, Some, None, refl, ◌∙◌, arith}
+use Rattle.std.proofs.Common.{◌≡◌, ℕ, List, [], ◌∷◌, Bool, true, false, cond, Option, Some, None}
+use Rattle.std.proofs.Common.{refl, ◌∙◌, arith}
 use Rattle.std.proofs.lemmas.List.Sums.{sum_by-cons}
 use Rattle.dsa_regs.specs.declared.Caps.{Caps}
-use Rattle.dsa_book.specs.declared.event.{Actor.{Actor, TheVariants.{Client, Engine, Admin}}, Event.{Event}}
+use Rattle.dsa_book.specs.declared.event.Actor.{Actor, TheVariants.{Client, Engine, Admin}}
+use Rattle.dsa_book.specs.declared.event.Event.{Event}
 use Rattle.dsa_book.specs.declared.event.Step.{Step}
 use Rattle.dsa_book.specs.declared.answer.Reply.{Reply}
-use Rattle.dsa_book.specs.{State.{State, opening}, Machine.{next, reply_of, replay, replay_from}, Choice.{Choice}}
+use Rattle.dsa_book.specs.State.{State, opening}
+use Rattle.dsa_book.specs.Machine.{next, reply_of, replay, replay_from}
+use Rattle.dsa_book.specs.Choice.{Choice}
 use Rattle.dsa_book.specs.Totals.{actor_of, same_actor, steps_of_actor, is_accepted, total_accepted}
 use Rattle.dsa_book.proofs.{Nexts.{next-each}, Replay.{replay_none}}
 

@@ -1,4 +1,6 @@
 pub mod Accepted
+pub mod Choices
+pub mod DecidedLoads
 pub mod FewNumbers
 pub mod OnTheWay
 pub mod OptionNumbers

@@ -1,9 +1,13 @@
 -- Numbers that options have.
-use Rattle.std.proofs.Common.{◌≡◌, ◌<◌, ℕ, ◌^◌, List, Option, Some, None, Result, Ok, Err, option_map, refl, sym, ap}
-use Rattle.std.specs.{Str.Parse.{IsNumeral, ParsesUnsigned, digits_value, without_leading_plus}, Prelude.{Box}}
+use Rattle.std.proofs.Common.{◌≡◌, ◌<◌, ℕ, ◌^◌, List, Option, Some, None, Result, Ok, Err}
+use Rattle.std.proofs.Common.{option_map, refl, sym, ap}
+use Rattle.std.specs.Str.Parse.{IsNumeral, ParsesUnsigned, digits_value, without_leading_plus}
+use Rattle.std.specs.Prelude.{Box}
 use Rattle.std.specs.Box.{box_value}
-use Rattle.clap.specs.{Matches.{ReadsOne, subcommand_name_of}, Simple.{subcommand_rows, subcommand_rows_of}}
-use Rattle.clap.specs.declared.parser.matches.ArgMatches.{ArgMatches, TheViews.{out-ArgMatches, out-SubCommand}}
+use Rattle.clap.specs.Matches.{ReadsOne, subcommand_name_of}
+use Rattle.clap.specs.Simple.{subcommand_rows, subcommand_rows_of}
+use Rattle.clap.specs.declared.parser.matches.ArgMatches.{ArgMatches}
+use Rattle.clap.specs.declared.parser.matches.ArgMatches.TheViews.{out-ArgMatches, out-SubCommand}
 use Rattle.clap.specs.declared.parser.matches.SubCommand.{SubCommand}
 
 -- what is read of a numeral in range

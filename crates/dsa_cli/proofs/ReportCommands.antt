@@ -1,9 +1,15 @@
 -- Commands that ask for a report, and words that name none.
 use Rattle.dsa_cli.specs.declared.options.Asked.TheVariants as asked
-use Rattle.std.proofs.Common.{◌≡◌, ◌∙◌, ◌⊎◌, inl, inr, ℕ, List, Some, None, codes, option_map, refl, sym, ap}
+use Rattle.std.proofs.Common.{◌≡◌, ◌≤◌, ◌∙◌, ◌⊎◌, inl, inr, ℕ, List, Some, None, codes, option_map}
+use Rattle.std.proofs.Common.{get_or, refl}
+use Rattle.std.proofs.Common.{[], Option, unwrap_or, sym, ap, subst, arith}
+use Rattle.std.specs.Str.Parse.{digits_value, without_leading_plus}
 use Rattle.clap.specs.Walk.{Row, Text}
-use Rattle.dsa_cli.specs.declared.options.Asked.{Asked}
-use Rattle.dsa_cli.specs.CommandLine.{AsksFor, NameNothing, NameReport, command_in}
+use Rattle.dsa_cli.specs.declared.options.{Asked.{Asked}, Workload.{Workload}}
+use Rattle.dsa_cli.specs.CommandLine.{AreNumbersOf, AsksFor, IsNumberOf, IsReportName, NameNothing}
+use Rattle.dsa_cli.specs.CommandLine.{NameReport}
+use Rattle.dsa_cli.specs.CommandLine.{NameThreads, SayHighThreshold, SaysNumber, command_in}
+use Rattle.dsa_cli.specs.Threads.{IsAskedInRange}
 
 -- a command is named, or none
 no_name : (words : List Text) (name : Text) → NameNothing words → command_in words ≡ Some name → ⊥
@@ -41,3 +47,78 @@ not_asked words count asks is told none same other (inr nothing) =
 pub named : (words : List Text) (count : ℕ) → ¬ (count ≡ 0) → (count ≡ 0) ⊎ NameNothing words → NameNothing words
 named words count some (inl empty) = absurd (some empty)
 named words count some (inr nothing) = nothing
+
+-- ---- words that name `threads`
+
+-- the second character of a text
+abbrev second : Text → ℕ
+second text = get_or text 1 0
+
+-- `threads` is no command that asks for a report
+no_report : (name : Text) → second name ≡ 104 → get_or name 0 0 ≡ 116 → IsReportName name → ⊥
+no_report name two one named =
+    elim named [
+      | inl check ↦ omega (arith, ap (λ (text : Text). get_or text 0 0) check, one)
+      | inr rest ↦
+          elim rest [
+            | inl explain ↦ omega (arith, ap second explain, two)
+            | inr rest ↦
+                elim rest [
+                  | inl trace ↦ omega (arith, ap second trace, two)
+                  | inr rest ↦
+                      elim rest [
+                        | inl count ↦ omega (arith, ap second count, two)
+                        | inr rest ↦
+                            elim rest [
+                              | inl draw ↦ omega (arith, ap second draw, two)
+                              | inr conform ↦ omega (arith, ap second conform, two)
+                            ]
+                      ]
+                ]
+          ]
+    ]
+
+-- they name it whatever their matches are
+command : (words : List Text) (rows : List Row) → NameThreads words rows → command_in words ≡ Some (codes "threads")
+command words rows named = ap (option_map (λ (f : Text × List Row). f.0)) named.1
+
+-- the name and the matches of a command
+abbrev name_in : Option (Text × List Row) → Text
+name_in found = unwrap_or (option_map (λ (p : Text × List Row). p.0) found) []
+
+abbrev rows_in : Option (Text × List Row) → List Row
+rows_in found = unwrap_or (option_map (λ (p : Text × List Row). p.1) found) []
+
+-- they have one list of matches
+same_rows : (words : List Text) (rows others : List Row) → NameThreads words rows → NameThreads words others
+    → others ≡ rows
+same_rows words rows others named other =
+    ap rows_in (sym other.1 ∙ named.1)
+
+-- a number of these matches is the one that they say
+said : (rows : List Row) (name : Text) (least most n m : ℕ) → IsNumberOf rows name least most n
+    → SaysNumber rows name least most m → n ≡ m
+said rows name least most n m is says =
+    let low : least ≤ digits_value 10 (without_leading_plus says.0) = omega (arith, says.3, says.4) in
+    let high : digits_value 10 (without_leading_plus says.0) ≤ most = omega (arith, says.3, says.5) in
+    is says.0 says.1 says.2 low high ∙ sym says.3
+
+-- words that say a threshold above the size ask for that
+pub asks_high : (words : List Text) (asks : Asked) (rows : List Row) → NameThreads words rows → SayHighThreshold rows
+    → AsksFor words asks → IsAskedInRange asks → (load : Workload) × (asks ≡ asked.HighThreshold load)
+asks_high words asked.Scenario rows named high is range =
+    absurd (is (codes "threads") (inr (inr refl)) (command words rows named))
+asks_high words (asked.Report report) rows named high is range =
+    let name : codes "threads" ≡ is.0.0 = ap name_in (sym named.1 ∙ is.1.1) in
+    absurd (no_report is.0.0 (ap second (sym name)) (ap (λ (text : Text). get_or text 0 0) (sym name)) is.1.2)
+asks_high words asked.Serve rows named high is range =
+    let name : codes "threads" ≡ codes "serve" =
+    ap (λ o. unwrap_or o []) (sym (command words rows named) ∙ is.1) in
+    absurd (omega (arith, ap second name))
+asks_high words (asked.Threads load) rows named high is range =
+    let same = same_rows words rows is.0 named is.1 in
+    let numbers : AreNumbersOf rows load = subst (λ r. AreNumbersOf r load) same is.2 in
+    let size = said rows (codes "size") 1 1_024 load.size high.0 numbers.size high.2 in
+    let threshold = said rows (codes "threshold") 1 1_024 load.threshold high.1 numbers.threshold high.3 in
+    absurd (omega (arith, range.threshold, size, threshold, high.4))
+asks_high words (asked.HighThreshold load) rows named high is range = (load, refl)

@@ -1,9 +1,11 @@
 -- What the workers' calls are: a client's are its submissions, and an administrator without a script makes none.
-use Rattle.std.proofs.Common.{◌≡◌, ℕ, List, [], ◌∷◌, length, get_or, inl, inr, refl, sym, ◌∙◌, subst, arith}
+use Rattle.std.proofs.Common.{◌≡◌, ℕ, List, [], ◌∷◌, length, get_or, inl, inr, refl, sym, ◌∙◌}
+use Rattle.std.proofs.Common.{subst, arith}
 use Rattle.std.proofs.lemmas.{Bool.{cases_lt}, List.{get_or_past, Elements.{All-filter}}}
 use Rattle.std.specs.Prelude.{All}
 use Rattle.dsa_regs.specs.declared.{Caps.{Caps}, Command.TheVariants.{EnableDevice, DisableDevice}}
-use Rattle.dsa_book.specs.declared.event.{Event.TheVariants.{Submit, Issue}, Kind.TheVariants.{Enqcmd}}
+use Rattle.dsa_book.specs.declared.event.Event.TheVariants.{Submit, Issue}
+use Rattle.dsa_book.specs.declared.event.Kind.TheVariants.{Enqcmd}
 use Rattle.dsa_book.specs.declared.event.{Portal.TheVariants.{Limited}, Step.{Step}}
 use Rattle.dsa_book.specs.Machine.{is_stored, stored_steps}
 use Rattle.dsa_shared.specs.Seat.{SeatLog}

@@ -1,18 +1,24 @@
 -- What the seats have together after a run in threads.
-use Rattle.std.proofs.Common.{◌≡◌, ◌≢◌, ◌≤◌, ◌<◌, ℕ, suc, ◌+◌, ◌*◌, List, [], ◌∷◌, ◌++◌, Bool, true, cond}
-use Rattle.std.proofs.Common.{Option, Some, length, take, get_or, refl, sym, ap, ap₂, ◌∙◌, append-nil, subst, arith}
-use Rattle.std.proofs.lemmas.List.{Elements.{filter-append}, Sums.{sum_by-le, count_by-le-length, length-filter}}
+use Rattle.std.proofs.Common.{◌≡◌, ◌≢◌, ◌≤◌, ◌<◌, ℕ, suc, ◌+◌, ◌*◌, List, [], ◌∷◌, ◌++◌, Bool, true}
+use Rattle.std.proofs.Common.{cond}
+use Rattle.std.proofs.Common.{Option, Some, length, take, get_or, refl, sym, ap, ap₂, ◌∙◌}
+use Rattle.std.proofs.Common.{append-nil, subst, arith}
+use Rattle.std.proofs.lemmas.List.Elements.{filter-append}
+use Rattle.std.proofs.lemmas.List.Sums.{sum_by-le, count_by-le-length, length-filter}
 use Rattle.std.proofs.lemmas.List.{get_or-replicate, length-take-le, take-append-drop, take_at}
 use Rattle.std.specs.{Prelude.{All, drop, filter}, Option.{option_map_or}}
 use Rattle.dsa_regs.specs.declared.Caps.{Caps}
 use Rattle.dsa_store.specs.Content.{held_count}
-use Rattle.dsa_book.specs.declared.event.{Step.{Step}, Actor.{Actor, TheVariants.{Client, Engine, Admin}}}
+use Rattle.dsa_book.specs.declared.event.Step.{Step}
+use Rattle.dsa_book.specs.declared.event.Actor.{Actor, TheVariants.{Client, Engine, Admin}}
 use Rattle.dsa_book.specs.{State.{State}, Machine.{is_legal, replay, stored_steps}}
 use Rattle.dsa_book.specs.Totals.{actor_of, same_actor, steps_of_actor, total_accepted}
 use Rattle.dsa_device.specs.Running.{Running, IsReplay}
 use Rattle.dsa_shared.specs.{declared.settle.Totals.{Totals}, Seat.{SeatLog, AllFresh, fresh}}
 use Rattle.dsa_shared.specs.{Settle.{Match}, Totals.{AreSums, Balance, totals_of}}
-use Rattle.dsa_workers.specs.declared.scripts.{EngineScript.{EngineScript}, Scripts.{Scripts}, Stint.{Stint}}
+use Rattle.dsa_workers.specs.declared.scripts.EngineScript.{EngineScript}
+use Rattle.dsa_workers.specs.declared.scripts.Scripts.{Scripts}
+use Rattle.dsa_workers.specs.declared.scripts.Stint.{Stint}
 use Rattle.dsa_workers.specs.declared.scripts.WorkerEnd.TheVariants.{HistoryFull}
 use Rattle.dsa_workers.specs.Workers.{RunsClient, RunsEngine, RunsAdmin, receipts_in}
 use Rattle.dsa_workers.specs.Calls.{InOrder, NextCommand}

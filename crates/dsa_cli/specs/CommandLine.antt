@@ -1,25 +1,31 @@
 -- The words of the command line, by clap's own definitions of what words say.
 use Rattle.dsa_cli.specs.declared.reports.Report.TheVariants as report
 use Rattle.dsa_cli.specs.declared.options.Asked.TheVariants as asked
-use Rattle.std.specs.Prelude.{◌≡◌, ◌≢◌, ◌⊎◌, ◌<◌, ◌≤◌, ℕ, pos, true, false, List, [], ◌∷◌, ◌++◌, length, take, codes, decimal}
+use Rattle.std.specs.Prelude.{◌≡◌, ◌≢◌, ◌⊎◌, ◌<◌, ◌≤◌, ℕ, pos, true, false, List, [], ◌∷◌, ◌++◌}
+use Rattle.std.specs.Prelude.{length, take, codes, decimal}
 use Rattle.std.specs.Prelude.{Option, Some, None}
 use Rattle.std.specs.Prelude.{option_map}
 use Rattle.std.specs.Io.KnownBytes.{Consumes, IsAtEnd, Appends}
 use Rattle.std.specs.Str.Parse.{IsNumeral, digits_value, without_leading_plus}
 use Rattle.clap.specs.declared.builder.action.ArgAction.TheVariants.{SetTrue}
 use Rattle.clap.specs.declared.builder.value_parser.ValueParser.TheVariants.{Signed}
-use Rattle.clap.specs.declared.error.kind.ErrorKind.{ErrorKind, TheVariants.{DisplayHelp, DisplayVersion}}
+use Rattle.clap.specs.declared.error.kind.ErrorKind.{ErrorKind}
+use Rattle.clap.specs.declared.error.kind.ErrorKind.TheVariants.{DisplayHelp, DisplayVersion}
 use Rattle.clap.specs.{Walk.{Row, Rule, Text, one_of}, Faults.{fault_of}, Kinds.{Kinds, IsAmong}}
-use Rattle.clap.specs.Simple.{App, new_app, new_rule, on_top, subcommand_of, with_rule, with_subcommand}
+use Rattle.clap.specs.Simple.{App, new_app, new_rule, on_top, subcommand_of, with_rule}
+use Rattle.clap.specs.Simple.{with_subcommand}
 use Rattle.dsa_shared.specs.declared.settle.Totals.{Totals}
 use Rattle.dsa_scenario.specs.declared.faults.ScenarioFault.{ScenarioFault}
 use Rattle.dsa_trace.specs.declared.form.Trace.{Trace, TheVariants.{Table, Json}}
 use Rattle.dsa_check.specs.declared.checking.Check.{Check}
-use Rattle.dsa_serve.specs.Dialogue.{AnswersAll}
+use Rattle.dsa_serve.specs.Dialogue.{AnswersAll, IsLate, IsStopped}
 use Rattle.dsa_cli.specs.Reports.{IsReported, IsReportCutShort, IsReportBegun}
-use Rattle.dsa_cli.specs.declared.reports.Report.{Report}
+use Rattle.dsa_cli.specs.declared.reports.{Report.{Report}, Run.{Run, TheVariants.{Own, Seen}}}
 use Rattle.dsa_cli.specs.Threads.{IsInRange, AreTotalsOf, totals_text}
-use Rattle.dsa_cli.specs.declared.options.{Workload.{Workload}, Asked.{Asked, TheVariants.{Scenario, Serve, Threads, HighThreshold}}}
+use Rattle.dsa_cli.specs.declared.options.Workload.{Workload}
+use Rattle.dsa_cli.specs.declared.options.Asked.{Asked}
+use Rattle.dsa_cli.specs.declared.options.Asked.TheVariants.{Scenario, Serve, Threads}
+use Rattle.dsa_cli.specs.declared.options.Asked.TheVariants.{HighThreshold}
 
 -- the option `--name`, whose value is a number from `least` to `most`, and `default` where it is not given
 abbrev pub number_rule : Text → ℕ → ℕ → Text → Rule
@@ -48,9 +54,19 @@ threads_app =
 abbrev pub flag_rule : Text → Rule
 flag_rule name = record (new_rule name) { long = Some name; action = Some SetTrue }
 
--- `trace`, with its option (profile)
+-- a command that also has the option of the run that was seen (profile)
+abbrev pub with_seen_rule : App → App
+with_seen_rule app = with_rule app (flag_rule (codes "seen"))
+
+-- `explain`, `trace` and `draw`, with their options (profile)
+abbrev pub explain_app : App
+explain_app = with_seen_rule (new_app (codes "explain"))
+
 abbrev pub trace_app : App
-trace_app = with_rule (new_app (codes "trace")) (flag_rule (codes "json"))
+trace_app = with_seen_rule (with_rule (new_app (codes "trace")) (flag_rule (codes "json")))
+
+abbrev pub draw_app : App
+draw_app = with_seen_rule (new_app (codes "draw"))
 
 -- `check`, with its option (profile)
 abbrev pub check_app : App
@@ -64,9 +80,9 @@ top_app = on_top (λ top. record top { no_binary_name = true; has_version = true
 abbrev pub program_app : App
 program_app =
     with_subcommand (with_subcommand (with_subcommand (with_subcommand (with_subcommand (with_subcommand
-    (with_subcommand top_app check_app.top) (new_app (codes "explain")).top)
-    trace_app.top) (new_app (codes "draw")).top) (new_app (codes "conform")).top) (new_app (codes "serve")).top)
-    threads_app.top
+    (with_subcommand (with_subcommand top_app check_app.top) explain_app.top) trace_app.top)
+    (new_app (codes "count")).top) draw_app.top) (new_app (codes "conform")).top)
+    (new_app (codes "serve")).top) threads_app.top
 
 -- what clap finds wrong with the words, if anything; to ask for help counts too
 abbrev pub faults_of_words : List Text → Kinds
@@ -106,6 +122,17 @@ AskForWorkers words load = (rows : List Row) × NameThreads words rows × AreNum
 abbrev pub AskHighThreshold : List Text → Workload → Type 0
 AskHighThreshold words load = AskForWorkers words load × (load.size < load.threshold)
 
+-- the option has a text in these matches, which says the number n, from `least` to `most`
+abbrev pub SaysNumber : List Row → Text → ℕ → ℕ → ℕ → Type 0
+SaysNumber rows name least most n = (text : Text) × (one_of name rows ≡ Some text)
+    × IsNumeral 10 (without_leading_plus text) × (n ≡ digits_value 10 (without_leading_plus text)) × (least ≤ n)
+    × (n ≤ most)
+
+-- the matches say a threshold above the size (profile)
+abbrev pub SayHighThreshold : List Row → Type 0
+SayHighThreshold rows = (size : ℕ) × (threshold : ℕ) × SaysNumber rows (codes "size") 1 1_024 size
+    × SaysNumber rows (codes "threshold") 1 1_024 threshold × (size < threshold)
+
 -- what is said of it (profile)
 abbrev pub high_threshold_text : Workload → List ℕ
 high_threshold_text load = codes "error: invalid value '" ++ decimal load.threshold
@@ -130,29 +157,38 @@ AreTotalsCutShort rows old new = (load : Workload) × (totals : Totals) × (coun
 
 -- ---- reports
 
+-- this is `on` where the option `--name`, which has no value, is given in these matches, and `off` where it is not
+pub record IsChosenBy {A : Type 0} (rows : List Row) (name : Text) (on off this : A) : Type 0 where
+  pub given : one_of name rows ≡ Some (codes "true") → this ≡ on
+  pub left_out : one_of name rows ≡ Some (codes "false") → this ≡ off
+
 -- the form of a trace is the one that the option `--json` asks for
-pub record IsFormOf (rows : List Row) (form : Trace) : Type 0 where
-  pub json : one_of (codes "json") rows ≡ Some (codes "true") → form ≡ Json
-  pub table : one_of (codes "json") rows ≡ Some (codes "false") → form ≡ Table
+abbrev pub IsFormOf : List Row → Trace → Type 0
+IsFormOf rows form = IsChosenBy rows (codes "json") Json Table form
+
+-- the run is the one that was seen where the option `--seen` asks for that
+abbrev pub IsRunChosen : List Row → Run → Type 0
+IsRunChosen rows run = IsChosenBy rows (codes "seen") Seen Own run
 
 -- warnings count as faults where the option `--strict` asks for that
-pub record IsCheckOf (rows : List Row) (check : Check) : Type 0 where
-  pub strict : one_of (codes "strict") rows ≡ Some (codes "true") → check.is_strict ≡ true
-  pub lenient : one_of (codes "strict") rows ≡ Some (codes "false") → check.is_strict ≡ false
+abbrev pub IsCheckOf : List Row → Check → Type 0
+IsCheckOf rows check = IsChosenBy rows (codes "strict") true false check.is_strict
 
 -- the command with these matches asks for the report (profile)
 abbrev pub IsAskedBy : Text × List Row → Report → Type 0
 IsAskedBy found (report.Check check) = (found.0 ≡ codes "check") × IsCheckOf found.1 check
-IsAskedBy found report.Explain = found.0 ≡ codes "explain"
-IsAskedBy found (report.Trace form) = (found.0 ≡ codes "trace") × IsFormOf found.1 form
-IsAskedBy found report.Draw = found.0 ≡ codes "draw"
+IsAskedBy found (report.Explain run) = (found.0 ≡ codes "explain") × IsRunChosen found.1 run
+IsAskedBy found (report.Trace form run) =
+    (found.0 ≡ codes "trace") × IsFormOf found.1 form × IsRunChosen found.1 run
+IsAskedBy found report.Count = found.0 ≡ codes "count"
+IsAskedBy found (report.Draw run) = (found.0 ≡ codes "draw") × IsRunChosen found.1 run
 IsAskedBy found report.Conform = found.0 ≡ codes "conform"
 
 -- the command is one that asks for a report
 abbrev pub IsReportName : Text → Type 0
 IsReportName name =
-    (name ≡ codes "check") ⊎ (name ≡ codes "explain") ⊎ (name ≡ codes "trace") ⊎ (name ≡ codes "draw")
-    ⊎ (name ≡ codes "conform")
+    (name ≡ codes "check") ⊎ (name ≡ codes "explain") ⊎ (name ≡ codes "trace") ⊎ (name ≡ codes "count")
+    ⊎ (name ≡ codes "draw") ⊎ (name ≡ codes "conform")
 
 -- the words name a command that asks for a report, with these matches, and nothing is wrong with them
 abbrev pub NameReport : List Text → Text × List Row → Type 0
@@ -195,6 +231,16 @@ NameServe words = (faults_of_words words ≡ []) × (command_in words ≡ Some (
 abbrev pub IsServed : Option (List ℕ) → Option (List ℕ) → Option (List ℕ) → Option (List ℕ) → Type 0
 IsServed had left held holds = (input : List ℕ) × (output : List ℕ) × Consumes had left input × IsAtEnd left
     × AnswersAll input output × Appends held holds output
+
+-- a fault stopped it: where it is none that may come late, before anything was written
+abbrev pub IsServeStopped : {W : Type 0} → ScenarioFault → Option (List ℕ) → Option (List ℕ)
+    → (W → Option (List ℕ)) → W → W → Type 0
+IsServeStopped fault had left contents old new =
+    IsStopped fault had left (contents old) (contents new) × (¬ IsLate fault → new ≡ old)
+
+-- the words ask for no input: something is wrong with them, or they name `threads`; to ask for help counts too
+abbrev pub AskNoInput : List Text → Type 0
+AskNoInput words = (faults_of_words words ≢ []) ⊎ ((rows : List Row) × NameThreads words rows)
 
 -- what the words ask for: workers, of whom it may be too much, a report, a dialogue, or else a scenario
 abbrev pub AsksFor : List Text → Asked → Type 0

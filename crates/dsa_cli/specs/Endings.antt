@@ -1,9 +1,11 @@
 -- How the program ends: what it has written, and what it says of a fault (profile).
 use Rattle.std.specs.Prelude.{◌≡◌, ◌≢◌, ◌⊎◌, ℕ, true, false, List, Option}
 use Rattle.std.specs.Io.KnownBytes.{Appends}
-use Rattle.dsa_scenario.specs.declared.faults.ScenarioFault.{ScenarioFault, TheVariants.{Write, OutOfMemory}}
+use Rattle.dsa_scenario.specs.declared.faults.ScenarioFault.{ScenarioFault}
+use Rattle.dsa_scenario.specs.declared.faults.ScenarioFault.TheVariants.{Write, OutOfMemory}
 use Rattle.dsa_scenario.specs.declared.watched.WatchedWriter.{WatchedWriter}
-use Rattle.dsa_scenario.specs.{Scenario.{HasFault}, Watched.{watched_contents, has_refused, is_closed}}
+use Rattle.dsa_scenario.specs.{Faults.{fault_line}, Scenario.{HasFault}}
+use Rattle.dsa_scenario.specs.Watched.{watched_contents, has_refused, is_closed, IsSameWriter}
 
 -- the line was added to what the other writer holds, unless that one refused a write or nobody reads the output
 abbrev pub IsFaultTold : {O E : Type 0} → WatchedWriter O → (E → Option (List ℕ)) → WatchedWriter E → WatchedWriter E
@@ -14,6 +16,19 @@ IsFaultTold out contents old new line = is_closed out ≡ false → has_refused 
 -- nothing was told on status 0, nor on status 1 where nobody reads the output
 abbrev pub IsQuiet : {O E : Type 0} → ℕ → WatchedWriter O → WatchedWriter E → WatchedWriter E → Type 0
 IsQuiet status out old new = (status ≡ 0 → new ≡ old) × (status ≡ 1 → is_closed out ≡ true → new ≡ old)
+
+-- what holds at each end: the writers are still the same ones, the status is one of two, and nothing more is told
+pub record IsEnd {O E : Type 0} (status : ℕ) (out out' : WatchedWriter O) (err err' : WatchedWriter E) : Type 0 where
+  pub same_output : IsSameWriter out out'
+  pub same_writer : IsSameWriter err err'
+  pub quiet : IsQuiet status out' err err'
+  pub statuses : (status ≡ 0) ⊎ (status ≡ 1)
+
+-- a fault ended it in this way, and is told
+abbrev pub IsEndedBy : {O E : Type 0} → (ScenarioFault → Type 0) → WatchedWriter O → (E → Option (List ℕ))
+    → WatchedWriter E → WatchedWriter E → Type 0
+IsEndedBy way out contents old new =
+    (fault : ScenarioFault) × way fault × IsFaultTold out contents old new (fault_line fault)
 
 -- a fault of writing is told only of a writer that refused a write
 abbrev pub IsWriteRefused : {W : Type 0} → ScenarioFault → WatchedWriter W → Type 0

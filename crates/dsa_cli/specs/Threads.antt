@@ -1,24 +1,43 @@
 -- The threads mode: what it sets up, what its workers are to do, and what it prints.
 use Rattle.dsa_book.specs.declared.answer.Reply.TheVariants as reply
-use Rattle.std.specs.Prelude.{◌≡◌, ◌≢◌, ◌≤◌, ◌<◌, ℕ, ◌+◌, ◌-◌, ◌*◌, ◌^◌, true, false, List, [], ◌∷◌, ◌++◌, All, length}
-use Rattle.std.specs.Prelude.{replicate, take, vec_len, slice_index_or, codes, decimal, Option, Some, ⊤}
+use Rattle.std.specs.Prelude.{◌≡◌, ◌≢◌, ◌≤◌, ◌<◌, ℕ, ◌+◌, ◌-◌, ◌*◌, ◌^◌, true, false, List, [], ◌∷◌}
+use Rattle.std.specs.Prelude.{◌++◌, All, length}
+use Rattle.std.specs.Prelude.{replicate, take, vec_len, slice_index_or, codes, decimal, Option}
+use Rattle.std.specs.Prelude.{Some, ⊤}
 use Rattle.std.specs.Global.{Vec}
-use Rattle.dsa_desc.specs.{declared.{Descriptor.{Descriptor}, Outcome.TheVariants.{Success}}, Descriptor.{read}}
-use Rattle.dsa_regs.specs.declared.{Caps.{Caps}, QueueConfig.{QueueConfig}, GroupConfig.{GroupConfig}}
+use Rattle.dsa_desc.specs.declared.{Descriptor.{Descriptor}, Outcome.TheVariants.{Success}}
+use Rattle.dsa_desc.specs.Descriptor.{read}
+use Rattle.dsa_regs.specs.declared.Caps.{Caps}
+use Rattle.dsa_regs.specs.declared.QueueConfig.{QueueConfig}
+use Rattle.dsa_regs.specs.declared.GroupConfig.{GroupConfig}
 use Rattle.dsa_regs.specs.declared.Command.TheVariants.{EnableDevice, EnableWq}
 use Rattle.dsa_store.specs.Content.{held_count}
 use Rattle.dsa_book.specs.declared.answer.IssueAnswer.TheVariants.{Ended}
 use Rattle.dsa_book.specs.declared.answer.WriteAnswer.TheVariants.{Written}
 use Rattle.dsa_book.specs.declared.event.Actor.TheVariants.{Client, Engine, Admin}
-use Rattle.dsa_book.specs.declared.event.Event.{Event, TheVariants.{Submit, Issue, WriteQueue, WriteGroup}}
-use Rattle.dsa_book.specs.declared.event.{Kind.TheVariants.{Enqcmd}, Portal.TheVariants.{Limited}, Step.{Step}}
-use Rattle.dsa_book.specs.{State.{State}, Machine.{is_legal, replay}, Totals.{steps_of_actor, total_accepted}}
-use Rattle.dsa_shared.specs.{declared.settle.Totals.{Totals}, Seat.{SeatLog, fresh}, Totals.{totals_of}}
+use Rattle.dsa_book.specs.declared.event.Event.{Event}
+use Rattle.dsa_book.specs.declared.event.Event.TheVariants.{Submit, Issue, WriteQueue, WriteGroup}
+use Rattle.dsa_book.specs.declared.event.Kind.TheVariants.{Enqcmd}
+use Rattle.dsa_book.specs.declared.event.Portal.TheVariants.{Limited}
+use Rattle.dsa_book.specs.declared.event.Step.{Step}
+use Rattle.dsa_book.specs.State.{State}
+use Rattle.dsa_book.specs.Machine.{is_legal, replay}
+use Rattle.dsa_book.specs.Totals.{steps_of_actor, total_accepted}
+use Rattle.dsa_shared.specs.declared.settle.Totals.{Totals}
+use Rattle.dsa_shared.specs.Seat.{SeatLog, fresh}
+use Rattle.dsa_shared.specs.Totals.{totals_of}
 use Rattle.dsa_workers.specs.declared.scripts.{ClientStep.{ClientStep}, EngineScript.{EngineScript}}
-use Rattle.dsa_workers.specs.declared.scripts.{Scripts.{Scripts}, Stint.{Stint}, WorkerEnd.TheVariants.{HistoryFull}}
+use Rattle.dsa_workers.specs.declared.scripts.Scripts.{Scripts}
+use Rattle.dsa_workers.specs.declared.scripts.Stint.{Stint}
+use Rattle.dsa_workers.specs.declared.scripts.WorkerEnd.TheVariants.{HistoryFull}
 use Rattle.dsa_workers.specs.Workers.{receipts_in, RunsClient, RunsEngine}
-use Rattle.dsa_cli.specs.declared.threads.ThreadsFault.{ThreadsFault, TheVariants.{SettleRefused, Write, OutOfMemory}}
-use Rattle.dsa_cli.specs.declared.options.{Workload.{Workload}, Asked.{Asked, TheVariants.{Scenario, Report, Serve, Threads, HighThreshold}}}
+use Rattle.dsa_cli.specs.declared.threads.ThreadsFault.{ThreadsFault}
+use Rattle.dsa_cli.specs.declared.threads.ThreadsFault.TheVariants.{SettleRefused, Write}
+use Rattle.dsa_cli.specs.declared.threads.ThreadsFault.TheVariants.{OutOfMemory}
+use Rattle.dsa_cli.specs.declared.options.Workload.{Workload}
+use Rattle.dsa_cli.specs.declared.options.Asked.{Asked}
+use Rattle.dsa_cli.specs.declared.options.Asked.TheVariants.{Scenario, Report, Serve, Threads}
+use Rattle.dsa_cli.specs.declared.options.Asked.TheVariants.{HighThreshold}
 use Rattle.dsa_scenario.specs.Lines.{line_of_text}
 
 -- ---- what is asked

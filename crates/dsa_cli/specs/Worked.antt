@@ -1,11 +1,16 @@
 -- Words, loads and bytes that the worked rows speak of.
 use Rattle.dsa_book.specs.declared.event.Event.TheVariants as event
-use Rattle.std.specs.Prelude.{ℕ, List, [], ◌∷◌, ◌++◌, replicate, codes, Option, None, option_and_then}
+use Rattle.std.specs.Prelude.{ℕ, List, [], ◌∷◌, ◌++◌, replicate, codes, Option, None}
+use Rattle.std.specs.Prelude.{option_and_then}
 use Rattle.dsa_desc.specs.declared.Outcome.TheVariants.{Success}
-use Rattle.dsa_book.specs.declared.answer.{Cause.TheVariants.{AtLimit}, Reply.TheVariants.{Submit, Dispatch, Finish}}
+use Rattle.dsa_book.specs.declared.answer.Cause.TheVariants.{AtLimit}
+use Rattle.dsa_book.specs.declared.answer.Reply.TheVariants.{Submit, Dispatch, Finish}
 use Rattle.dsa_book.specs.declared.answer.SubmitAnswer.TheVariants.{Accepted, Retry}
-use Rattle.dsa_book.specs.declared.answer.{DispatchAnswer.TheVariants.{Taken}, FinishAnswer.TheVariants.{Done}}
-use Rattle.dsa_book.specs.declared.event.{Kind.TheVariants.{Enqcmd}, Portal.TheVariants.{Limited}, Step.{Step}}
+use Rattle.dsa_book.specs.declared.answer.DispatchAnswer.TheVariants.{Taken}
+use Rattle.dsa_book.specs.declared.answer.FinishAnswer.TheVariants.{Done}
+use Rattle.dsa_book.specs.declared.event.Kind.TheVariants.{Enqcmd}
+use Rattle.dsa_book.specs.declared.event.Portal.TheVariants.{Limited}
+use Rattle.dsa_book.specs.declared.event.Step.{Step}
 use Rattle.dsa_shared.specs.Seat.{SeatLog}
 use Rattle.dsa_scenario.specs.Worked.{record_ticket}
 use Rattle.dsa_workers.specs.declared.scripts.ClientStep.{ClientStep}
@@ -88,6 +93,14 @@ threads_with option value = codes "threads" ∷ option ∷ value ∷ []
 abbrev pub json_trace : List Text
 json_trace = codes "trace" ∷ codes "--json" ∷ []
 
+-- the command `trace` with both of its options
+abbrev pub seen_json_trace : List Text
+seen_json_trace = codes "trace" ∷ codes "--seen" ∷ codes "--json" ∷ []
+
+-- a command with the option of the run that was seen
+abbrev pub words_with_seen : Text → List Text
+words_with_seen command = command ∷ codes "--seen" ∷ []
+
 -- the command `check` with its option
 abbrev pub strict_words : List Text
 strict_words = codes "check" ∷ codes "--strict" ∷ []
@@ -100,3 +113,7 @@ value_in words name = option_and_then (λ found. one_of name found.1) (subcomman
 abbrev pub option_row : Text → Text → List Row
 option_row name value =
     record { id = name; values = value ∷ []; count = None; source = None; reading = AsWritten } ∷ []
+
+-- the matches of `trace`, with these values of its options
+abbrev pub trace_rows : Text → Text → List Row
+trace_rows json seen = option_row (codes "json") json ++ option_row (codes "seen") seen

@@ -14,7 +14,7 @@ mod totals;
 mod words;
 
 pub use options::{Asked, Workload, read_words};
-pub use reports::Report;
+pub use reports::{Report, Run};
 pub use threads::{ThreadsFault, run_workload};
 pub use totals::render_totals;
 pub use words::{answer_words, run_words, tell};

@@ -1,13 +1,18 @@
 //! The words of the command line, read with `clap`.
 
-ghost use Rattle.std.specs.Prelude.{◌≡◌, ◌≢◌, ◌≤◌, ◌<◌, true, false, List, Ok, Some, IfSome, IfNone, IfOk, length, map, option_map, string_bytes};
+ghost use Rattle.std.specs.Prelude.{◌≡◌, ◌≢◌, ◌≤◌, ◌<◌, true, false, List, Ok, Some};
+ghost use Rattle.std.specs.Prelude.{IfSome, IfNone, IfOk, length, map, option_map, string_bytes};
 ghost use Rattle.clap.specs.Words.{Row, Text, app_of, rule_of, found_of, rows_of, FailsBy};
-ghost use Rattle.clap.specs.Simple.{new_app, subcommand_rows_of};
+ghost use Rattle.clap.specs.Simple.{new_app, with_rule, subcommand_rows_of};
 ghost use Rattle.clap.specs.declared.builder.command.Command.TheViews.{out-Command as fields_of};
 ghost use Rattle.dsa_cli.specs.Threads.{IsInRange, IsAskedInRange};
-ghost use Rattle.dsa_cli.specs.CommandLine.{number_rule, flag_rule, threads_app, trace_app, check_app, top_app, program_app, IsNumberOf, AreNumbersOf, IsFormOf, IsCheckOf, IsReportName, IsAskedBy, AsksFor, faults_of_words};
+ghost use Rattle.dsa_cli.specs.CommandLine.{number_rule, flag_rule, threads_app};
+ghost use Rattle.dsa_cli.specs.CommandLine.{top_app, program_app, with_seen_rule};
+ghost use Rattle.dsa_cli.specs.CommandLine.{IsNumberOf, AreNumbersOf};
+ghost use Rattle.dsa_cli.specs.CommandLine.{IsChosenBy, IsFormOf, IsRunChosen, IsCheckOf};
+ghost use Rattle.dsa_cli.specs.CommandLine.{IsReportName, IsAskedBy, AsksFor, faults_of_words};
 
-use crate::reports::Report;
+use crate::reports::{Report, Run};
 use clap::{Arg, ArgAction, ArgMatches, Command, Error, value_parser};
 use dsa_check::Check;
 use dsa_release::version_text;
@@ -42,7 +47,7 @@ pub enum Asked {
     Scenario,
     /// A report on the scenario from standard input.
     Report(Report),
-    /// A dialogue: a scenario in the first line of standard input, and then a step in each line.
+    /// A dialogue: a scenario in the first line of standard input, and then a request in each line.
     Serve,
     /// Workers in threads.
     Threads(Workload),
@@ -85,20 +90,32 @@ Exit status: 0 no fault, 1 a fault, 2 a usage error.";
 const EXPLAIN_HELP: &str = "\
 Reads one scenario document (JSON) from standard input, makes its steps on a model of a
 device, and writes a line for each step: its number, the event and the answer, and the
-reason where the device turned the step down or the step has to wait.
+reason where the device turned the step down or the step has to wait. With --seen the
+run is one that conform follows, by the \"answer\" and the \"zf\" of the steps.
 
 Exit status: 0 done, 1 a fault (its line goes to standard error), 2 a usage error.";
 
 const TRACE_HELP: &str = "\
 Reads one scenario document (JSON) from standard input, makes its steps on a model of a
 device, and writes a line for each step: its number, the event, the answer, and what the
-device shows after it. A line follows for each entry that the device still holds.
+device shows after it. A line follows for each entry that the device still holds. With
+--seen the run is one that conform follows, by the \"answer\" and the \"zf\" of the
+steps.
+
+Exit status: 0 done, 1 a fault (its line goes to standard error), 2 a usage error.";
+
+const COUNT_HELP: &str = "\
+Reads one scenario document (JSON) from standard input, makes its steps on a model of a
+device, and writes totals of the run: submissions that were accepted and turned away, by
+cause, of all, of each client and of each queue; the peak of each queue and of the read
+buffers of each group; how many steps commands waited; and how entries ended.
 
 Exit status: 0 done, 1 a fault (its line goes to standard error), 2 a usage error.";
 
 const DRAW_HELP: &str = "\
 Reads one scenario document (JSON) from standard input, makes its steps on a model of a
-device, and writes a drawing of the run, as SVG.
+device, and writes a drawing of the run, as SVG. With --seen the run is one that
+conform follows, by the \"answer\" and the \"zf\" of the steps.
 
 Exit status: 0 done, 1 a fault (its line goes to standard error), 2 a usage error.";
 
@@ -115,8 +132,10 @@ standard error), 2 a usage error.";
 const SERVE_HELP: &str = "\
 Reads one scenario document (JSON) from the first line of standard input, and then a step
 from each line. Each step is made as it comes, on one model of a device, and answered with
-its line before the next is read. A line that is no step is answered with its fault, and
-changes nothing. At the end of input comes a line for each descriptor that ended.
+its line before the next is read. {\"do\": \"show\"} is answered with the state of the device,
+and {\"do\": \"fates\"} with what became of the descriptors that ended since the last such line.
+Any other line is answered with its fault, and changes nothing. At the end of input comes a
+line for each descriptor that ended.
 
 Exit status: 0 done, 1 a fault (its line goes to standard error), 2 a usage error.";
 
@@ -128,6 +147,22 @@ accepted, fetched, retried, done, lost and held, each with its number, and balan
 accepted + fetched = done + lost + held.
 
 Exit status: 0 done, 1 a fault (its line goes to standard error), 2 a usage error.";
+
+const CLIENTS: &str = "How many clients submit, 1 to 16";
+
+const ENGINES: &str = "How many engines work, 1 to 8";
+
+const EACH: &str = "How many descriptors each client submits, 1 to 1000";
+
+const TURNS: &str = "How many turns each worker has at most, 1 to 40000";
+
+const SIZE: &str = "How many entries the queue holds, 1 to 1024";
+
+const THRESHOLD: &str = "At how many entries it turns clients away, 1 to the size";
+
+const SLOTS: &str = "How many entries an engine works on at once, 1 to 16";
+
+const BUFFERS: &str = "How many read buffers there are, 4 to 255";
 
 // An option that takes a number from `least` to `most`.
 fn number_option<'a>(
@@ -151,77 +186,62 @@ fn number_option<'a>(
         .help(help)
 }
 
+// The command with one more option, which is of no command below it.
+fn with_option<'a>(command: Command<'a>, option: Arg<'a>) -> Result<Command<'a>, AllocError>
+    requires local { option.global ≡ false }
+    requires no_globals { (fields_of command).has_globals ≡ false }
+    ensures app { IfOk result
+        (λ c. app_of c ≡ with_rule (app_of command.entry) (rule_of option.entry)) }
+    ensures local { IfOk result (λ c. (fields_of c).has_globals ≡ false) }
+{
+    command.arg(option)
+}
+
+// The command with one more option that takes a number.
+fn with_number<'a>(
+    alloc: Global,
+    command: Command<'a>,
+    name: &'a str,
+    least: u32,
+    most: u32,
+    default: &'a str,
+    help: &'a str,
+) -> Result<Command<'a>, AllocError>
+    requires least { least ≤ 40_000 }
+    requires most { most ≤ 40_000 }
+    requires no_globals { (fields_of command).has_globals ≡ false }
+    ensures app { IfOk result (λ c. app_of c ≡ with_rule (app_of command.entry)
+        (number_rule name.entry.now least most default.entry.now)) }
+    ensures local { IfOk result (λ c. (fields_of c).has_globals ≡ false) }
+{
+    with_option(
+        command,
+        number_option(alloc, name, least, most, default, help),
+    )
+}
+
 fn threads_command<'a>(alloc: Global) -> Result<Command<'a>, AllocError>
     ensures app { IfOk result (λ c. app_of c ≡ threads_app) }
     ensures local { IfOk result (λ c. (fields_of c).has_globals ≡ false) }
 {
-    Command::new(alloc, "threads")
-        .about("Do the totals balance where threads share one device?")
-        .after_help(THREADS_HELP)
-        .arg(number_option(
-            alloc,
-            "clients",
-            1,
-            MOST_CLIENTS,
-            "2",
-            "How many clients submit, 1 to 16",
-        ))?
-        .arg(number_option(
-            alloc,
-            "engines",
-            1,
-            MOST_ENGINES,
-            "2",
-            "How many engines work, 1 to 8",
-        ))?
-        .arg(number_option(
-            alloc,
-            "each",
-            1,
-            MOST_EACH,
-            "100",
-            "How many descriptors each client submits, 1 to 1000",
-        ))?
-        .arg(number_option(
-            alloc,
-            "turns",
-            1,
-            MOST_TURNS,
-            "10000",
-            "How many turns each worker has at most, 1 to 40000",
-        ))?
-        .arg(number_option(
-            alloc,
-            "size",
-            1,
-            MOST_ENTRIES,
-            "16",
-            "How many entries the queue holds, 1 to 1024",
-        ))?
-        .arg(number_option(
-            alloc,
-            "threshold",
-            1,
-            MOST_ENTRIES,
-            "8",
-            "At how many entries it turns clients away, 1 to the size",
-        ))?
-        .arg(number_option(
-            alloc,
-            "slots",
-            1,
-            MOST_SLOTS,
-            "4",
-            "How many entries an engine works on at once, 1 to 16",
-        ))?
-        .arg(number_option(
-            alloc,
-            "buffers",
-            LEAST_BUFFERS,
-            MOST_BUFFERS,
-            "32",
-            "How many read buffers there are, 4 to 255",
-        ))
+    let about = "Do the totals balance where threads share one device?";
+    let command = plain_command(alloc, "threads", about, THREADS_HELP);
+    let command = with_number(alloc, command, "clients", 1, MOST_CLIENTS, "2", CLIENTS)?;
+    let command = with_number(alloc, command, "engines", 1, MOST_ENGINES, "2", ENGINES)?;
+    let command = with_number(alloc, command, "each", 1, MOST_EACH, "100", EACH)?;
+    let command = with_number(alloc, command, "turns", 1, MOST_TURNS, "10000", TURNS)?;
+    let command = with_number(alloc, command, "size", 1, MOST_ENTRIES, "16", SIZE)?;
+    let command = with_number(alloc, command, "threshold", 1, MOST_ENTRIES, "8", THRESHOLD)?;
+    let command = with_number(alloc, command, "slots", 1, MOST_SLOTS, "4", SLOTS)?;
+    with_number(
+        alloc,
+        command,
+        "buffers",
+        LEAST_BUFFERS,
+        MOST_BUFFERS,
+        "32",
+        BUFFERS,
+    )
 }
 
 // An option that takes no value.
@@ -235,24 +255,16 @@ fn flag<'a>(alloc: Global, name: &'a str, help: &'a str) -> Arg<'a>
         .help(help)
 }
 
-fn trace_command<'a>(alloc: Global) -> Result<Command<'a>, AllocError>
-    ensures app { IfOk result (λ c. app_of c ≡ trace_app) }
+// The command with the option of the run that was seen.
+fn with_seen<'a>(alloc: Global, command: Command<'a>) -> Result<Command<'a>, AllocError>
+    requires no_globals { (fields_of command).has_globals ≡ false }
+    ensures app { IfOk result (λ c. app_of c ≡ with_seen_rule (app_of command.entry)) }
     ensures local { IfOk result (λ c. (fields_of c).has_globals ≡ false) }
 {
-    Command::new(alloc, "trace")
-        .about("What does the device hold after each step?")
-        .after_help(TRACE_HELP)
-        .arg(flag(alloc, "json", "Write a JSON object in each line"))
-}
-
-fn check_command<'a>(alloc: Global) -> Result<Command<'a>, AllocError>
-    ensures app { IfOk result (λ c. app_of c ≡ check_app) }
-    ensures local { IfOk result (λ c. (fields_of c).has_globals ≡ false) }
-{
-    Command::new(alloc, "check")
-        .about("What is wrong with the document, and where?")
-        .after_help(CHECK_HELP)
-        .arg(flag(alloc, "strict", "Count a warning as a fault"))
+    with_option(
+        command,
+        flag(alloc, "seen", "Show a run that conform follows"),
+    )
 }
 
 // A command that takes no options.
@@ -286,15 +298,26 @@ fn top_command<'a>(alloc: Global) -> Result<Command<'a>, AllocError>
 fn command_line<'a>(alloc: Global) -> Result<Command<'a>, AllocError>
     ensures { IfOk result (λ c. app_of c ≡ program_app) }
 {
+    let check = "What is wrong with the document, and where?";
+    let check = plain_command(alloc, "check", check, CHECK_HELP);
+    let strict = flag(alloc, "strict", "Count a warning as a fault");
     let explain = "Why was each step answered as it was?";
+    let explain = plain_command(alloc, "explain", explain, EXPLAIN_HELP);
+    let trace = "What does the device hold after each step?";
+    let trace = plain_command(alloc, "trace", trace, TRACE_HELP);
+    let json = flag(alloc, "json", "Write a JSON object in each line");
+    let count = "How many were turned away and why, how full did it get, \
+        how long did commands wait?";
     let draw = "What does the whole run look like?";
+    let draw = plain_command(alloc, "draw", draw, DRAW_HELP);
     let conform = "May a device answer as another one was seen to answer?";
     let serve = "What does the device answer to my next step?";
     top_command(alloc)?
-        .subcommand(check_command(alloc)?)?
-        .subcommand(plain_command(alloc, "explain", explain, EXPLAIN_HELP))?
-        .subcommand(trace_command(alloc)?)?
-        .subcommand(plain_command(alloc, "draw", draw, DRAW_HELP))?
+        .subcommand(with_option(check, strict)?)?
+        .subcommand(with_seen(alloc, explain)?)?
+        .subcommand(with_seen(alloc, with_option(trace, json)?)?)?
+        .subcommand(plain_command(alloc, "count", count, COUNT_HELP))?
+        .subcommand(with_seen(alloc, draw)?)?
         .subcommand(plain_command(alloc, "conform", conform, CONFORM_HELP))?
         .subcommand(plain_command(alloc, "serve", serve, SERVE_HELP))?
         .subcommand(threads_command(alloc)?)
@@ -341,14 +364,32 @@ fn asked_by(load: Workload) -> Asked
     }
 }
 
+// Whether an option is given that takes no value.
+fn is_given(given: &ArgMatches<'_>, name: &str) -> bool
+    ensures { IsChosenBy (rows_of (found_of given.now)) name.now true false result }
+{
+    given.get_flag(name)
+}
+
 // The form that the option of `trace` asks for.
 fn form_of(given: &ArgMatches<'_>) -> Trace
     ensures { IsFormOf (rows_of (found_of given.now)) result }
 {
-    if given.get_flag("json") {
+    if is_given(given, "json") {
         Trace::Json
     } else {
         Trace::Table
+    }
+}
+
+// The run that the option `--seen` asks for.
+fn run_of(given: &ArgMatches<'_>) -> Run
+    ensures { IsRunChosen (rows_of (found_of given.now)) result }
+{
+    if is_given(given, "seen") {
+        Run::Seen
+    } else {
+        Run::Own
     }
 }
 
@@ -357,7 +398,7 @@ fn check_of(given: &ArgMatches<'_>) -> Check
     ensures { IsCheckOf (rows_of (found_of given.now)) result }
 {
     Check {
-        is_strict: given.get_flag("strict"),
+        is_strict: is_given(given, "strict"),
     }
 }
 
@@ -382,16 +423,19 @@ fn report_of(matches: &ArgMatches<'_>) -> Option<Report>
         → option_map (λ found. found.0) (subcommand_rows_of matches.now) ≢ Some name) }
 {
     if let Some(given) = matches.subcommand_matches("trace") {
-        return Some(Report::Trace(form_of(given)));
+        return Some(Report::Trace(form_of(given), run_of(given)));
     }
     if let Some(given) = matches.subcommand_matches("check") {
         return Some(Report::Check(check_of(given)));
     }
-    if is_named(matches, "explain") {
-        return Some(Report::Explain);
+    if let Some(given) = matches.subcommand_matches("explain") {
+        return Some(Report::Explain(run_of(given)));
     }
-    if is_named(matches, "draw") {
-        return Some(Report::Draw);
+    if let Some(given) = matches.subcommand_matches("draw") {
+        return Some(Report::Draw(run_of(given)));
+    }
+    if is_named(matches, "count") {
+        return Some(Report::Count);
     }
     is_named(matches, "conform").then_some(Report::Conform)
 }

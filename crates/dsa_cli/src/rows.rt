@@ -1,6 +1,8 @@
 //! Worked words, loads and totals: what the definitions answer at chosen values, by computation.
 
-ghost use Rattle.std.specs.Prelude.{◌≡◌, ◌≢◌, ◌⊎◌, ◌≤◌, ◌<◌, ◌+◌, ℕ, List, [], ◌∷◌, ◌++◌, All, length, codes, map, replicate, take, vec_len, slice_index_or, ⊤, Option, Some, None, true, false};
+ghost use Rattle.std.specs.Prelude.{◌≡◌, ◌≢◌, ◌⊎◌, ◌≤◌, ◌<◌, ◌+◌, ℕ, List, [], ◌∷◌, ◌++◌, All};
+ghost use Rattle.std.specs.Prelude.{length, codes, map, replicate, take, vec_len, slice_index_or};
+ghost use Rattle.std.specs.Prelude.{⊤, Option, Some, None, true, false};
 ghost use Rattle.dsa_desc.specs.declared.Outcome.TheVariants.{Success};
 ghost use Rattle.dsa_regs.specs.declared.Caps.{Caps};
 ghost use Rattle.dsa_regs.specs.declared.Command.TheVariants.{EnableDevice, EnableWq};
@@ -8,7 +10,8 @@ ghost use Rattle.dsa_book.specs.declared.answer.Reply.TheVariants as reply;
 ghost use Rattle.dsa_book.specs.declared.answer.WriteAnswer.TheVariants.{Written};
 ghost use Rattle.dsa_book.specs.declared.answer.IssueAnswer.TheVariants.{Ended};
 ghost use Rattle.dsa_book.specs.declared.event.Step.{Step};
-ghost use Rattle.dsa_book.specs.declared.event.Event.TheVariants.{Submit, Issue, WriteQueue, WriteGroup};
+ghost use Rattle.dsa_book.specs.declared.event.Event.TheVariants.{Submit, Issue, WriteQueue};
+ghost use Rattle.dsa_book.specs.declared.event.Event.TheVariants.{WriteGroup};
 ghost use Rattle.dsa_book.specs.declared.event.Kind.TheVariants.{Enqcmd, Movdir64b};
 ghost use Rattle.dsa_book.specs.declared.event.Portal.TheVariants.{Limited, Unlimited};
 ghost use Rattle.dsa_book.specs.declared.event.Actor.TheVariants.{Client, Engine, Admin};
@@ -22,34 +25,64 @@ ghost use Rattle.dsa_workers.specs.Calls.{steps_done};
 ghost use Rattle.dsa_workers.specs.declared.scripts.{ClientStep.{ClientStep}, Scripts.{Scripts}};
 ghost use Rattle.std.specs.Global.{Vec};
 ghost use Rattle.std.specs.Io.KnownBytes.{Appends, Consumes, IsAtEnd};
-ghost use Rattle.std.specs.Str.Parse.{IsNumeral};
 ghost use Rattle.clap.specs.Walk.{Row, Text};
 ghost use Rattle.dsa_workers.specs.declared.scripts.WorkerEnd.TheVariants.{HistoryFull};
 ghost use Rattle.dsa_workers.specs.Workers.{receipts_in, RunsClient, RunsEngine};
 ghost use Rattle.dsa_cli.specs.declared.options.Workload.{Workload};
-ghost use Rattle.dsa_cli.specs.declared.options.Asked.TheVariants.{Scenario, Report, Serve, Threads, HighThreshold};
-ghost use Rattle.clap.specs.declared.error.kind.ErrorKind.TheVariants.{UnknownArgument, InvalidSubcommand, ValueValidation, DisplayHelp, DisplayVersion};
-ghost use Rattle.dsa_cli.specs.declared.reports.Report.TheVariants.{Check, Explain, Trace, Draw, Conform};
+ghost use Rattle.dsa_cli.specs.declared.options.Asked.TheVariants.{Scenario, Report, Serve};
+ghost use Rattle.dsa_cli.specs.declared.options.Asked.TheVariants.{Threads, HighThreshold};
+ghost use Rattle.clap.specs.declared.error.kind.ErrorKind.TheVariants.{UnknownArgument};
+ghost use Rattle.clap.specs.declared.error.kind.ErrorKind.TheVariants.{InvalidSubcommand};
+ghost use Rattle.clap.specs.declared.error.kind.ErrorKind.TheVariants.{ValueValidation};
+ghost use Rattle.clap.specs.declared.error.kind.ErrorKind.TheVariants.{DisplayHelp, DisplayVersion};
+ghost use Rattle.dsa_cli.specs.declared.reports.Report.TheVariants.{Check, Explain, Trace, Count, Draw};
+ghost use Rattle.dsa_cli.specs.declared.reports.Report.TheVariants.{Conform};
+ghost use Rattle.dsa_cli.specs.declared.reports.Run.TheVariants.{Own, Seen};
+ghost use Rattle.dsa_trace.specs.declared.form.Trace.{Trace as TraceForm};
 ghost use Rattle.dsa_trace.specs.declared.form.Trace.TheVariants.{Table, Json};
-ghost use Rattle.dsa_scenario.specs.declared.faults.ScenarioFault.TheVariants.{BadCaps, Read, TooLong, Write, OutOfMemory};
+ghost use Rattle.dsa_scenario.specs.declared.faults.ScenarioFault.TheVariants.{BadCaps, Read};
+ghost use Rattle.dsa_scenario.specs.declared.faults.ScenarioFault.TheVariants.{BadStep};
+ghost use Rattle.dsa_scenario.specs.declared.faults.ScenarioFault.TheVariants.{TooLong, Write};
+ghost use Rattle.dsa_scenario.specs.declared.faults.ScenarioFault.TheVariants.{OutOfMemory};
 ghost use Rattle.dsa_scenario.specs.declared.watched.WatchedWriter.{WatchedWriter};
 ghost use Rattle.dsa_scenario.specs.Scenario.{HasFault, IsTextCutShort, IsTextWritten};
 ghost use Rattle.dsa_scenario.specs.Streams.{AreLinesOfStart, IsTextBegun};
-ghost use Rattle.dsa_scenario.specs.Watched.{has_refused, is_closed};
+ghost use Rattle.dsa_serve.specs.Dialogue.{AnswersAll};
+ghost use Rattle.dsa_scenario.specs.Faults.{fault_line};
+ghost use Rattle.dsa_scenario.specs.Watched.{has_refused, is_closed, IsSameWriter};
 ghost use Rattle.dsa_check.specs.Check.{IsCheckReportOf};
 ghost use Rattle.dsa_check.specs.Worked.{plain_check, strict_check};
-ghost use Rattle.dsa_conform.specs.Run.{IsConformance};
-ghost use Rattle.dsa_explain_lines.specs.Run.{IsExplanation};
+ghost use Rattle.dsa_conform.specs.{AsSeen.{IsMadeAsSeen}, Run.{IsConformance, IsUnread}};
+ghost use Rattle.std.specs.Str.Parse.{IsNumeral};
+ghost use Rattle.dsa_explain_lines.specs.Run.{IsExplanation, IsExplanationOf};
 ghost use Rattle.dsa_trace.specs.Lines.{trace_line_of_step};
 ghost use Rattle.dsa_trace.specs.Run.{IsTrace, IsTraceOf};
-ghost use Rattle.dsa_draw.specs.Drawings.{IsDrawingOf};
-ghost use Rattle.dsa_serve.specs.Dialogue.{AnswersAll};
+ghost use Rattle.dsa_count.specs.Totals.{AreTotalsOfDocument};
+ghost use Rattle.dsa_draw.specs.Drawings.{IsDrawingOf, IsDrawnOf};
 ghost use Rattle.dsa_cli.specs.Reports.{IsReportBegun, IsReportCutShort, IsReportOf, IsReported};
-ghost use Rattle.dsa_cli.specs.Endings.{IsFaultTold, IsQuiet, IsStoppedBy, IsStoppedOnTheWay, IsUnwritten, IsWriteRefused};
-ghost use Rattle.dsa_cli.specs.Threads.{AreScriptsOf, AreTotalsOf, IsClientScript, HaveWorked, IsInRange, RanAsClient, RanAsEngine, Submits, caps_for, capacity_for, engine_script, group_config, client_move, queue_config, setup_steps, submission_of, threads_fault_line, totals_text};
+ghost use Rattle.dsa_cli.specs.Endings.{IsEnd, IsEndedBy, IsFaultTold, IsQuiet, IsStoppedBy};
+ghost use Rattle.dsa_cli.specs.Endings.{IsStoppedOnTheWay};
+ghost use Rattle.dsa_cli.specs.Endings.{IsUnwritten, IsWriteRefused};
+ghost use Rattle.dsa_cli.specs.Threads.{AreScriptsOf, AreTotalsOf, IsClientScript, HaveWorked};
+ghost use Rattle.dsa_cli.specs.Threads.{IsInRange, RanAsClient, RanAsEngine, Submits, caps_for};
+ghost use Rattle.dsa_cli.specs.Threads.{capacity_for, engine_script, group_config, client_move};
+ghost use Rattle.dsa_cli.specs.Threads.{queue_config, setup_steps, submission_of};
+ghost use Rattle.dsa_cli.specs.Threads.{threads_fault_line, totals_text};
 ghost use Rattle.dsa_cli.specs.declared.threads.ThreadsFault.TheVariants as fault;
-ghost use Rattle.dsa_cli.specs.CommandLine.{AreNumbersOf, AreTotalsCutShort, AreTotalsWritten, AsksFor, IsAskedBy, IsMistaken, IsNumberOf, IsReportCut, IsReportLeft, IsReportName, IsReportWritten, IsServed, IsUnderstood, NameNothing, NameReport, NameServe, NameThreads, command_in, faults_of_words};
-ghost use Rattle.dsa_cli.specs.Worked.{page_move_bytes, move_under, load, sized, threads_with, option_row, two_retries, client_seats_after, engine_seats_after, value_in, json_trace, strict_words};
+ghost use Rattle.dsa_cli.specs.CommandLine.{AskNoInput, IsServeStopped, SayHighThreshold};
+ghost use Rattle.dsa_cli.specs.CommandLine.{high_threshold_text};
+ghost use Rattle.dsa_cli.specs.CommandLine.{SaysNumber};
+ghost use Rattle.dsa_cli.specs.CommandLine.{AreNumbersOf, AreTotalsCutShort, AreTotalsWritten};
+ghost use Rattle.dsa_cli.specs.CommandLine.{AsksFor, IsAskedBy, IsMistaken, IsNumberOf};
+ghost use Rattle.dsa_cli.specs.CommandLine.{IsReportCut, IsReportLeft, IsReportName};
+ghost use Rattle.dsa_cli.specs.CommandLine.{IsReportWritten, IsServed, IsUnderstood, NameNothing};
+ghost use Rattle.dsa_cli.specs.CommandLine.{NameReport, NameServe, NameThreads, command_in};
+ghost use Rattle.dsa_cli.specs.CommandLine.{faults_of_words};
+ghost use Rattle.dsa_cli.specs.Worked.{page_move_bytes, move_under, load, sized, threads_with};
+ghost use Rattle.dsa_cli.specs.Worked.{option_row, trace_rows, two_retries};
+ghost use Rattle.dsa_cli.specs.Worked.{client_seats_after};
+ghost use Rattle.dsa_cli.specs.Worked.{engine_seats_after, value_in, json_trace, seen_json_trace};
+ghost use Rattle.dsa_cli.specs.Worked.{words_with_seen, strict_words};
 
 /// What the words may be: none, or the command `threads` with its options.
 #[tactic(auto, unfolding(clap::proofs::OnLiterals::clap_on_literals))]
@@ -66,8 +99,15 @@ pub fn words_understood()
     ensures checks { command_in (codes "check" ∷ []) ≡ Some (codes "check") }
     ensures strict_check { faults_of_words strict_words ≡ [] }
     ensures strict_alone { faults_of_words (codes "--strict" ∷ []) ≡ UnknownArgument ∷ [] }
+    ensures seen { map (λ command. faults_of_words (words_with_seen command))
+        (codes "explain" ∷ codes "trace" ∷ codes "draw" ∷ codes "count" ∷ [])
+        ≡ [] ∷ [] ∷ [] ∷ (UnknownArgument ∷ []) ∷ [] }
+    ensures seen_alone { faults_of_words (codes "--seen" ∷ []) ≡ UnknownArgument ∷ [] }
+    ensures seen_json_trace { faults_of_words seen_json_trace ≡ [] }
     ensures explain { faults_of_words (codes "explain" ∷ []) ≡ [] }
     ensures explains { command_in (codes "explain" ∷ []) ≡ Some (codes "explain") }
+    ensures count { faults_of_words (codes "count" ∷ []) ≡ [] }
+    ensures counts { command_in (codes "count" ∷ []) ≡ Some (codes "count") }
     ensures draw { faults_of_words (codes "draw" ∷ []) ≡ [] }
     ensures drawing { command_in (codes "draw" ∷ []) ≡ Some (codes "draw") }
     ensures conform { faults_of_words (codes "conform" ∷ []) ≡ [] }
@@ -396,14 +436,15 @@ pub fn reports_written()
         → IsReportCutShort Conform (Some bytes) (Some []) (Some (codes "k"))
         (Some (codes "k" ++ take 3 text)) }
     ensures drawing { (bytes text : List ℕ) → IsDrawingOf bytes text → length bytes ≤ 1_048_576
-        → IsReportWritten (codes "draw", []) None (Some bytes) (Some []) (Some (codes "k"))
-        (Some (codes "k" ++ text)) }
+        → IsReportWritten (codes "draw", option_row (codes "seen") (codes "false")) None
+        (Some bytes) (Some []) (Some (codes "k")) (Some (codes "k" ++ text)) }
     ensures reported { (found : Text × List Row) (had left held holds : Option (List ℕ))
         (is : IsReportWritten found None had left held holds)
         → IsAskedBy found is.0 × IsReported is.0 None had left held holds }
     ensures drawing_cut { (bytes text : List ℕ)
         → IsDrawingOf bytes text → length bytes ≤ 1_048_576 → 3 < length text
-        → IsReportCut (codes "draw", []) (Some bytes) (Some []) (Some (codes "k"))
+        → IsReportCut (codes "draw", option_row (codes "seen") (codes "false")) (Some bytes)
+        (Some []) (Some (codes "k"))
         (Some (codes "k" ++ take 3 text)) }
     ensures cut { (found : Text × List Row) (had left held holds : Option (List ℕ))
         (is : IsReportCut found had left held holds)
@@ -416,6 +457,7 @@ pub fn names_of_reports()
     ensures check { IsReportName (codes "check") }
     ensures explain { IsReportName (codes "explain") }
     ensures trace { IsReportName (codes "trace") }
+    ensures count { IsReportName (codes "count") }
     ensures draw { IsReportName (codes "draw") }
     ensures conform { IsReportName (codes "conform") }
     ensures serve { ¬ IsReportName (codes "serve") }
@@ -430,19 +472,32 @@ pub fn names_of_reports()
     ensures no_plain_check { ¬ IsAskedBy
         (codes "check", option_row (codes "strict") (codes "true"))
         (Check plain_check) }
-    ensures asks_explain { IsAskedBy (codes "explain", []) Explain }
-    ensures asks_draw { IsAskedBy (codes "draw", []) Draw }
+    ensures asks_explain { IsAskedBy (codes "explain", option_row (codes "seen") (codes "false"))
+        (Explain Own) }
+    ensures asks_seen { IsAskedBy (codes "explain", option_row (codes "seen") (codes "true"))
+        (Explain Seen) }
+    ensures no_own_run { ¬ IsAskedBy (codes "explain", option_row (codes "seen") (codes "true"))
+        (Explain Own) }
+    ensures no_seen_run { ¬ IsAskedBy (codes "draw", option_row (codes "seen") (codes "false"))
+        (Draw Seen) }
+    ensures asks_count { IsAskedBy (codes "count", []) Count }
+    ensures asks_draw { IsAskedBy (codes "draw", option_row (codes "seen") (codes "false"))
+        (Draw Own) }
     ensures asks_conform { IsAskedBy (codes "conform", []) Conform }
-    ensures asks_trace { IsAskedBy (codes "trace", option_row (codes "json") (codes "false"))
-        (Trace Table) }
-    ensures asks_json { IsAskedBy (codes "trace", option_row (codes "json") (codes "true"))
-        (Trace Json) }
-    ensures no_table { ¬ IsAskedBy (codes "trace", option_row (codes "json") (codes "true"))
-        (Trace Table) }
-    ensures other_report { ¬ IsAskedBy (codes "draw", option_row (codes "json") (codes "false"))
-        (Trace Table) }
-    ensures other_form { ¬ IsAskedBy (codes "trace", option_row (codes "json") (codes "false"))
-        (Trace Json) }
+    ensures asks_trace { IsAskedBy (codes "trace", trace_rows (codes "false") (codes "false"))
+        (Trace Table Own) }
+    ensures asks_json { IsAskedBy (codes "trace", trace_rows (codes "true") (codes "false"))
+        (Trace Json Own) }
+    ensures asks_seen_json { IsAskedBy (codes "trace", trace_rows (codes "true") (codes "true"))
+        (Trace Json Seen) }
+    ensures no_table { ¬ IsAskedBy (codes "trace", trace_rows (codes "true") (codes "false"))
+        (Trace Table Own) }
+    ensures other_report { ¬ IsAskedBy (codes "draw", trace_rows (codes "false") (codes "false"))
+        (Trace Table Own) }
+    ensures other_form { ¬ IsAskedBy (codes "trace", trace_rows (codes "false") (codes "false"))
+        (Trace Json Own) }
+    ensures other_run { ¬ IsAskedBy (codes "trace", trace_rows (codes "true") (codes "true"))
+        (Trace Json Own) }
 {}
 
 /// What the options of `threads` say: numbers between bounds, the bounds among them.
@@ -458,11 +513,20 @@ pub fn numbers_of_options()
     ensures above { IsNumberOf (option_row (codes "each") (codes "1001")) (codes "each") 1 1_000 7 }
     ensures no_number { IsNumberOf (option_row (codes "each") (codes "1a")) (codes "each") 1 1_000
         7 }
-    ensures many_clients { AreNumbersOf (option_row (codes "clients") (codes "17")) (load 2 3 5 7) }
-    ensures many_engines { AreNumbersOf (option_row (codes "engines") (codes "9")) (load 2 3 5 7) }
-    ensures much_each { AreNumbersOf (option_row (codes "each") (codes "1001")) (load 2 3 5 7) }
-    ensures many_turns { AreNumbersOf (option_row (codes "turns") (codes "40001")) (load 2 3 5 7) }
-    ensures few_buffers { AreNumbersOf (option_row (codes "buffers") (codes "3")) (load 2 3 5 7) }
+    ensures says { SaysNumber (option_row (codes "each") (codes "7")) (codes "each") 1 1_000 7 }
+    ensures says_no_other { ¬ SaysNumber (option_row (codes "each") (codes "7")) (codes "each") 1
+        1_000 8 }
+    ensures says_no_bound { (n : ℕ)
+        → ¬ SaysNumber (option_row (codes "each") (codes "1001")) (codes "each") 1 1_000 n }
+    ensures says_high { SayHighThreshold
+        (option_row (codes "size") (codes "4") ++ option_row (codes "threshold") (codes "5")) }
+    ensures says_the_size { ¬ SayHighThreshold
+        (option_row (codes "size") (codes "5") ++ option_row (codes "threshold") (codes "5")) }
+    ensures past_bounds { AreNumbersOf (option_row (codes "clients") (codes "17")) (load 2 3 5 7)
+        × AreNumbersOf (option_row (codes "engines") (codes "9")) (load 2 3 5 7)
+        × AreNumbersOf (option_row (codes "each") (codes "1001")) (load 2 3 5 7)
+        × AreNumbersOf (option_row (codes "turns") (codes "40001")) (load 2 3 5 7)
+        × AreNumbersOf (option_row (codes "buffers") (codes "3")) (load 2 3 5 7) }
     ensures all { (rows : List Row) (asked : Workload) → AreNumbersOf rows asked
         → IsNumberOf rows (codes "clients") 1 16 asked.clients
         × IsNumberOf rows (codes "engines") 1 8 asked.engines
@@ -472,6 +536,14 @@ pub fn numbers_of_options()
         × IsNumberOf rows (codes "threshold") 1 1_024 asked.threshold
         × IsNumberOf rows (codes "slots") 1 16 asked.slots
         × IsNumberOf rows (codes "buffers") 4 255 asked.buffers }
+{}
+
+/// What is said of a threshold of 13 where the size is 11.
+#[tactic(auto, unfolding(dsa_scenario::specs::Worked::digits_on_literals))]
+pub fn lines_of_a_high_threshold()
+    ensures { high_threshold_text (sized 11 13 4 32)
+        ≡ codes "error: invalid value '13' for '--threshold <NUMBER>': 13 is above the size, 11"
+        ++ codes "\n\nFor more information, try '--help'.\n" }
 {}
 
 /// The scripts of two clients and of engines.
@@ -529,6 +601,18 @@ pub fn endings()
     ensures refused_words { (old new : WatchedWriter ℕ)
         → IsUnwritten Write old new → has_refused new ≡ true }
     ensures not_of_reading { (old new : WatchedWriter ℕ) → ¬ IsUnwritten Read old new }
+    ensures end { (status : ℕ) (out out' err err' : WatchedWriter ℕ)
+        → IsEnd status out out' err err'
+        → IsSameWriter out out'
+        × IsSameWriter err err'
+        × IsQuiet status out' err err'
+        × ((status ≡ 0) ⊎ (status ≡ 1)) }
+    ensures ended { (out : WatchedWriter ℕ) (old new : WatchedWriter (List ℕ))
+        → is_closed out ≡ false → has_refused new ≡ false
+        → IsEndedBy (λ fault. fault ≡ TooLong) out (λ held. Some held) old new
+        → new.writer.now ≡ old.writer.now ++ fault_line TooLong }
+    ensures first_line_refused { (had left : Option (List ℕ)) (old new : ℕ)
+        → IsServeStopped TooLong had left (λ n. Some (n ∷ [])) old new → new ≡ old }
 {}
 
 /// What gave rise to a fault, and what the writer holds then.
@@ -549,22 +633,37 @@ pub fn stops()
         (λ n. Some (n ∷ [])) 3 3 }
 {}
 
-/// Only of a check, and of a conformance, a fault is told after the report.
+/// Only of a check, of a conformance and of a run that was seen, a fault is told after the report;
+/// of that run it is a step that says no answer.
 pub fn reports_of_documents()
     ensures no_explanation { (bytes text : List ℕ)
-        → ¬ IsReportOf Explain bytes (Some BadCaps) text }
+        → ¬ IsReportOf (Explain Own) bytes (Some BadCaps) text }
+    ensures no_seen_explanation { (bytes text : List ℕ)
+        → ¬ IsReportOf (Explain Seen) bytes (Some BadCaps) text }
     ensures no_trace { (bytes text : List ℕ)
-        → ¬ IsReportOf (Trace Json) bytes (Some BadCaps) text }
-    ensures no_drawing { (bytes text : List ℕ) → ¬ IsReportOf Draw bytes (Some BadCaps) text }
+        → ¬ IsReportOf (Trace Json Own) bytes (Some BadCaps) text }
+    ensures no_totals { (bytes text : List ℕ) → ¬ IsReportOf Count bytes (Some BadCaps) text }
+    ensures no_drawing { (bytes text : List ℕ)
+        → ¬ IsReportOf (Draw Own) bytes (Some BadCaps) text }
     ensures check { (bytes text : List ℕ)
         → IsReportOf (Check plain_check) bytes (Some BadCaps) text
         → IsCheckReportOf plain_check bytes (Some BadCaps) text }
     ensures explanation { (bytes text : List ℕ)
-        → IsReportOf Explain bytes None text → IsExplanation bytes text }
+        → IsReportOf (Explain Own) bytes None text → IsExplanation bytes text }
+    ensures seen_explanation { (bytes text : List ℕ)
+        → IsReportOf (Explain Seen) bytes None text → IsMadeAsSeen IsExplanationOf bytes None text }
     ensures trace { (bytes text : List ℕ)
-        → IsReportOf (Trace Json) bytes None text → IsTrace Json bytes text }
+        → IsReportOf (Trace Json Own) bytes None text → IsTrace Json bytes text }
+    ensures seen_trace { (bytes text : List ℕ)
+        → IsReportOf (Trace Json Seen) bytes None text
+        → IsMadeAsSeen (IsTraceOf Json) bytes None text }
+    ensures totals { (bytes text : List ℕ)
+        → IsReportOf Count bytes None text → AreTotalsOfDocument bytes text }
     ensures drawing { (bytes text : List ℕ)
-        → IsReportOf Draw bytes None text → IsDrawingOf bytes text }
+        → IsReportOf (Draw Own) bytes None text → IsDrawingOf bytes text }
+    ensures seen_drawing { (bytes text : List ℕ)
+        → IsReportOf (Draw Seen) bytes (Some (BadStep 7)) text
+        → IsUnread bytes 7 × (text ≡ []) }
     ensures conformance { (bytes text : List ℕ)
         → IsReportOf Conform bytes (Some BadCaps) text
         → IsConformance bytes (Some BadCaps) text }
@@ -573,7 +672,7 @@ pub fn reports_of_documents()
 /// What the words name, where nothing is wrong with them; to ask for help counts too.
 #[tactic(auto, unfolding(clap::proofs::OnLiterals::clap_on_literals))]
 pub fn named_commands()
-    ensures draw { NameReport (codes "draw" ∷ []) (codes "draw", []) }
+    ensures count { NameReport (codes "count" ∷ []) (codes "count", []) }
     ensures help_with_draw { (found : Text × List Row)
         → ¬ NameReport (codes "draw" ∷ codes "--help" ∷ []) found }
     ensures other_report { ¬ NameReport (codes "draw" ∷ []) (codes "check", []) }
@@ -586,6 +685,10 @@ pub fn named_commands()
     ensures draw_is_something { ¬ NameNothing (codes "draw" ∷ []) }
     ensures help_with_serve { ¬ NameServe (codes "serve" ∷ codes "--help" ∷ []) }
     ensures no_serve { ¬ NameServe [] }
+    ensures no_input_for_threads { AskNoInput (codes "threads" ∷ []) }
+    ensures no_input_for_help { AskNoInput (codes "draw" ∷ codes "--help" ∷ []) }
+    ensures input { ¬ AskNoInput [] }
+    ensures input_for_draw { ¬ AskNoInput (codes "draw" ∷ []) }
 {}
 
 /// What the words ask for, and which are mistaken.
@@ -596,21 +699,28 @@ pub fn asked()
     ensures no_scenario { ¬ AsksFor (codes "threads" ∷ []) Scenario }
     ensures threads { AsksFor (threads_with (codes "--engines") (codes "3"))
         (Threads (load 2 3 100 10_000)) }
-    ensures trace { AsksFor (codes "trace" ∷ []) (Report (Trace Table)) }
-    ensures json { AsksFor json_trace (Report (Trace Json)) }
+    ensures trace { AsksFor (codes "trace" ∷ []) (Report (Trace Table Own)) }
+    ensures json { AsksFor json_trace (Report (Trace Json Own)) }
+    ensures seen_trace { AsksFor (words_with_seen (codes "trace")) (Report (Trace Table Seen)) }
+    ensures seen_json { AsksFor seen_json_trace (Report (Trace Json Seen)) }
     ensures check { AsksFor (codes "check" ∷ []) (Report (Check plain_check)) }
     ensures strict_check { AsksFor strict_words (Report (Check strict_check)) }
     ensures no_plain_check { ¬ AsksFor strict_words (Report (Check plain_check)) }
     ensures no_strict_check { ¬ AsksFor (codes "check" ∷ []) (Report (Check strict_check)) }
-    ensures explain { AsksFor (codes "explain" ∷ []) (Report Explain) }
-    ensures draw { AsksFor (codes "draw" ∷ []) (Report Draw) }
+    ensures explain { AsksFor (codes "explain" ∷ []) (Report (Explain Own)) }
+    ensures seen_explain { AsksFor (words_with_seen (codes "explain")) (Report (Explain Seen)) }
+    ensures no_own_explain { ¬ AsksFor (words_with_seen (codes "explain")) (Report (Explain Own)) }
+    ensures count { AsksFor (codes "count" ∷ []) (Report Count) }
+    ensures draw { AsksFor (codes "draw" ∷ []) (Report (Draw Own)) }
+    ensures seen_draw { AsksFor (words_with_seen (codes "draw")) (Report (Draw Seen)) }
+    ensures no_seen_draw { ¬ AsksFor (codes "draw" ∷ []) (Report (Draw Seen)) }
     ensures conform { AsksFor (codes "conform" ∷ []) (Report Conform) }
     ensures serve { AsksFor (codes "serve" ∷ []) Serve }
     ensures draw_is_no_scenario { ¬ AsksFor (codes "draw" ∷ []) Scenario }
     ensures serve_is_no_scenario { ¬ AsksFor (codes "serve" ∷ []) Scenario }
     ensures other_report { ¬ AsksFor (codes "draw" ∷ [])
         (Report (Check plain_check)) }
-    ensures nothing_is_no_report { ¬ AsksFor [] (Report Draw) }
+    ensures nothing_is_no_report { ¬ AsksFor [] (Report (Draw Own)) }
     ensures nothing_is_no_threads { ¬ AsksFor [] (Threads (load 2 2 100 10_000)) }
     ensures other_numbers { ¬ AsksFor (threads_with (codes "--engines") (codes "3"))
         (Threads (load 2 7 100 10_000)) }
@@ -651,12 +761,14 @@ pub fn reports_begun()
     ensures not_cut { ¬ IsStoppedOnTheWay Write (λ _ _ _ _. ⊥) (λ _ _ _ _. ⊤) (Some [])
         (Some []) (λ n. Some (n ∷ [])) 3 4 }
     ensures rows { (had left held holds : Option (List ℕ))
-        → IsReportBegun (Trace Json) had left held holds
+        → IsReportBegun (Trace Json Own) had left held holds
         → IsTextWritten (AreLinesOfStart (trace_line_of_step Json)) had left held holds }
     ensures no_drawing { (had left held holds : Option (List ℕ))
         → ¬ IsReportLeft (codes "draw", []) had left held holds }
+    ensures no_seen_trace { (form : TraceForm) (had left held holds : Option (List ℕ))
+        → ¬ IsReportBegun (Trace form Seen) had left held holds }
     ensures trace_cut { (had left held holds : Option (List ℕ))
-        → IsReportCutShort (Trace Table) had left held holds
+        → IsReportCutShort (Trace Table Own) had left held holds
         → IsTextCutShort (IsTextBegun (IsTraceOf Table) (trace_line_of_step Table)) had left held
         holds }
 {}

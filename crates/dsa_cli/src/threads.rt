@@ -1,14 +1,19 @@
 //! The threads mode: clients, engines and an administrator in threads of their own, on one shared
 //! device.
 
-ghost use Rattle.std.specs.Prelude.{◌≡◌, ◌≢◌, ◌≤◌, ◌<◌, ◌+◌, ◌*◌, ◌^◌, ◌++◌, ◌↔◌, true, false, ℕ, All, IfOk, OnOk, IfErr, IsErrOf, vec_len, length, take, replicate, [], Some};
+ghost use Rattle.std.specs.Prelude.{◌≡◌, ◌≢◌, ◌≤◌, ◌<◌, ◌+◌, ◌*◌, ◌^◌, ◌++◌, ◌↔◌, true, false, ℕ};
+ghost use Rattle.std.specs.Prelude.{All, IfOk, OnOk, IfErr, IsErrOf, vec_len, length, take};
+ghost use Rattle.std.specs.Prelude.{replicate, [], Some};
 ghost use Rattle.std.specs.Io.KnownBytes.{Appends};
 ghost use Rattle.dsa_shared.specs.declared.settle.Totals.{Totals};
 ghost use Rattle.dsa_book.specs.Totals.{actor_of};
 ghost use Rattle.dsa_shared.specs.Seat.{AllFresh};
 ghost use Rattle.dsa_device.specs.Running.{running_at_first};
 ghost use Rattle.dsa_scenario.specs.Watched.{watched_contents, has_refused, IsSameWriter};
-ghost use Rattle.dsa_cli.specs.Threads.{IsInRange, AreTotalsOf, AreScriptsOf, HaveWorked, IsClientScript, Submits, caps_for, capacity_for, queue_config, group_config, setup_steps, engine_script, totals_text};
+ghost use Rattle.dsa_cli.specs.Threads.{IsInRange, AreTotalsOf, AreScriptsOf, HaveWorked};
+ghost use Rattle.dsa_cli.specs.Threads.{IsClientScript, Submits, caps_for, capacity_for};
+ghost use Rattle.dsa_cli.specs.Threads.{queue_config, group_config, setup_steps, engine_script};
+ghost use Rattle.dsa_cli.specs.Threads.{totals_text};
 
 use crate::options::Workload;
 use crate::pace::Pace;

@@ -1,34 +1,39 @@
 //! What the words of the command line make the program do.
 
-ghost use Rattle.std.specs.Prelude.{◌≡◌, ◌≢◌, ◌⊎◌, ◌≤◌, ◌<◌, ◌++◌, true, false, ℕ, List, Some, None, [], length, take, codes, map, string_bytes, IfSome};
+ghost use Rattle.std.specs.Prelude.{◌≡◌, ◌≢◌, ◌⊎◌, ◌≤◌, ◌<◌, ◌++◌, true, false, ℕ};
+ghost use Rattle.std.specs.Prelude.{List, Some, None, [], length, take, codes, map, string_bytes};
+ghost use Rattle.std.specs.Prelude.{IfSome};
 ghost use Rattle.std.specs.Io.KnownBytes.{Appends};
 ghost use Rattle.clap.specs.Words.{Row, Text, kind_of};
 ghost use Rattle.dsa_shared.specs.declared.settle.Totals.{Totals};
 ghost use Rattle.dsa_cli.specs.declared.options.Workload.{Workload};
 ghost use Rattle.dsa_scenario.specs.declared.faults.ScenarioFault.{ScenarioFault};
 ghost use Rattle.dsa_scenario.specs.Faults.{fault_line};
-ghost use Rattle.dsa_scenario.specs.Scenario.{HasFault, IsRenderingOf, IsTextWritten, IsTextCutShort, IsCutShort};
-ghost use Rattle.dsa_scenario.specs.Steps.{IsTextOfDocument};
-ghost use Rattle.dsa_scenario.specs.Streams.{AreLinesOfStart, IsTextBegun};
-ghost use Rattle.dsa_serve.specs.Dialogue.{IsLate, IsStopped};
+ghost use Rattle.dsa_scenario.specs.Scenario.{IsRenderingOf, IsTextWritten, IsTextCutShort};
+ghost use Rattle.dsa_scenario.specs.Scenario.{IsCutShort};
 ghost use Rattle.dsa_cli.specs.declared.threads.ThreadsFault.{ThreadsFault};
 ghost use Rattle.dsa_cli.specs.Threads.{IsInRange, AreTotalsOf, threads_fault_line, totals_text};
-ghost use Rattle.dsa_scenario.specs.Watched.{watched_contents, has_refused, is_closed, IsSameWriter};
-ghost use Rattle.dsa_cli.specs.CommandLine.{IsMistaken, IsUnderstood, faults_of_words, high_threshold_text, IsServed, NameNothing, NameThreads, NameReport, NameServe, IsReportWritten, IsReportCut, IsReportLeft, AreTotalsWritten, AreTotalsCutShort};
-ghost use Rattle.dsa_cli.specs.Endings.{IsFaultTold, IsQuiet, IsWriteRefused, IsStoppedBy, IsStoppedOnTheWay, IsUnwritten};
+ghost use Rattle.dsa_scenario.specs.Watched.{watched_contents, has_refused, is_closed};
+ghost use Rattle.dsa_scenario.specs.Watched.{IsSameWriter};
+ghost use Rattle.dsa_cli.specs.CommandLine.{IsMistaken, IsUnderstood, AskNoInput, faults_of_words};
+ghost use Rattle.dsa_cli.specs.CommandLine.{NameNothing, NameThreads, NameReport, NameServe};
+ghost use Rattle.dsa_cli.specs.CommandLine.{IsServed, IsServeStopped};
+ghost use Rattle.dsa_cli.specs.CommandLine.{SayHighThreshold, high_threshold_text};
+ghost use Rattle.dsa_cli.specs.CommandLine.{IsReportWritten, IsReportCut, IsReportLeft};
+ghost use Rattle.dsa_cli.specs.CommandLine.{AreTotalsWritten, AreTotalsCutShort};
+ghost use Rattle.dsa_cli.specs.Endings.{IsEnd, IsEndedBy, IsFaultTold, IsQuiet, IsWriteRefused};
+ghost use Rattle.dsa_cli.specs.Endings.{IsStoppedBy, IsStoppedOnTheWay, IsUnwritten};
 ghost use Rattle.dsa_cli.specs.Reports.{IsReported, IsReportCutShort, IsReportBegun};
 
 use crate::options::{Asked, Workload, read_words};
-use crate::reports::Report;
+use crate::reports::{Report, Run};
 use crate::threads::run_workload;
 use clap::Error;
 use clap::error::ErrorKind;
-use dsa_conform::Conformance;
+use dsa_conform::{AsSeen, Conformance};
 use dsa_draw::Drawing;
 use dsa_explain_lines::Explanation;
-use dsa_scenario::{
-    PlainRun, Render, ScenarioFault, StreamSteps, WatchedWriter, render_input, stream_input,
-};
+use dsa_scenario::{PlainRun, Render, ScenarioFault, WatchedWriter, render_input, stream_input};
 use dsa_serve::serve_watched;
 use std::alloc::Global;
 use std::fmt::Display;
@@ -99,24 +104,21 @@ fn write_text<D: Render, R: Read, O: Write, E: Write>(
     out: &mut WatchedWriter<'_, O>,
     err: &mut WatchedWriter<'_, E>,
 ) -> u8
-    ensures same_output { IsSameWriter out.old out.new }
-    ensures same_writer { IsSameWriter err.old err.new }
     ensures done { result ≡ 0
         → IsTextWritten (λ bytes text. D.is_rendering what.now bytes None text)
         (R.remaining reader.old) (R.remaining reader.new)
         (watched_contents O.contents out.old) (watched_contents O.contents out.new) }
     ensures failed { result ≡ 1
-        → (fault : ScenarioFault)
-        × (IsTextWritten (λ bytes text. D.is_rendering what.now bytes (Some fault) text)
+        → IsEndedBy (λ fault. IsTextWritten
+        (λ bytes text. D.is_rendering what.now bytes (Some fault) text)
         (R.remaining reader.old) (R.remaining reader.new)
         (watched_contents O.contents out.old) (watched_contents O.contents out.new)
         ⊎ IsStoppedBy fault (IsTextCutShort (D.is_rendering what.now))
         (R.remaining reader.old) (R.remaining reader.new)
         (watched_contents O.contents) out.old out.new
         × IsWriteRefused fault out.new)
-        × IsFaultTold out.new E.contents err.old err.new (fault_line fault) }
-    ensures quiet { IsQuiet result out.new err.old err.new }
-    ensures statuses { (result ≡ 0) ⊎ (result ≡ 1) }
+        out.new E.contents err.old err.new }
+    ensures ends { IsEnd result out.old out.new err.old err.new }
 {
     match render_input(alloc, what, reader, out) {
         Ok(rendering) => {
@@ -132,43 +134,6 @@ fn write_text<D: Render, R: Read, O: Write, E: Write>(
     }
 }
 
-// Writes what `what` makes of a run of the document that the reader gives, the lines of the steps
-// while these are made, and the line of the fault.
-fn stream_text<D: StreamSteps, R: Read, O: Write, E: Write>(
-    alloc: Global,
-    what: &D,
-    reader: &mut R,
-    out: &mut WatchedWriter<'_, O>,
-    err: &mut WatchedWriter<'_, E>,
-) -> u8
-    ensures same_output { IsSameWriter out.old out.new }
-    ensures same_writer { IsSameWriter err.old err.new }
-    ensures done { result ≡ 0
-        → IsTextWritten (IsTextOfDocument (D.is_text what.now))
-        (R.remaining reader.old) (R.remaining reader.new)
-        (watched_contents O.contents out.old) (watched_contents O.contents out.new) }
-    ensures failed { result ≡ 1
-        → (fault : ScenarioFault)
-        × IsStoppedOnTheWay fault
-        (IsTextCutShort (IsTextBegun (D.is_text what.now) (D.line what.now)))
-        (IsTextWritten (AreLinesOfStart (D.line what.now)))
-        (R.remaining reader.old) (R.remaining reader.new)
-        (watched_contents O.contents) out.old out.new
-        × IsWriteRefused fault out.new
-        × IsFaultTold out.new E.contents err.old err.new (fault_line fault) }
-    ensures quiet { IsQuiet result out.new err.old err.new }
-    ensures statuses { (result ≡ 0) ⊎ (result ≡ 1) }
-{
-    match stream_input(alloc, what, reader, out) {
-        Ok(document) => {
-            // As in `write_text`, the system frees it.
-            mem::forget(document);
-            DONE
-        }
-        Err(fault) => tell_reader(out, err, &fault),
-    }
-}
-
 // Writes the report on the document that the reader gives, and the line of the fault.
 fn write_report<R: Read, O: Write, E: Write>(
     alloc: Global,
@@ -177,28 +142,42 @@ fn write_report<R: Read, O: Write, E: Write>(
     out: &mut WatchedWriter<'_, O>,
     err: &mut WatchedWriter<'_, E>,
 ) -> u8
-    ensures same_output { IsSameWriter out.old out.new }
-    ensures same_writer { IsSameWriter err.old err.new }
     ensures done { result ≡ 0
         → IsReported report None (R.remaining reader.old) (R.remaining reader.new)
         (watched_contents O.contents out.old) (watched_contents O.contents out.new) }
     ensures failed { result ≡ 1
-        → (fault : ScenarioFault)
-        × (IsReported report (Some fault) (R.remaining reader.old) (R.remaining reader.new)
+        → IsEndedBy (λ fault. IsReported report (Some fault)
+        (R.remaining reader.old) (R.remaining reader.new)
         (watched_contents O.contents out.old) (watched_contents O.contents out.new)
         ⊎ IsStoppedOnTheWay fault (IsReportCutShort report) (IsReportBegun report)
         (R.remaining reader.old) (R.remaining reader.new)
         (watched_contents O.contents) out.old out.new
         × IsWriteRefused fault out.new)
-        × IsFaultTold out.new E.contents err.old err.new (fault_line fault) }
-    ensures quiet { IsQuiet result out.new err.old err.new }
-    ensures statuses { (result ≡ 0) ⊎ (result ≡ 1) }
+        out.new E.contents err.old err.new }
+    ensures ends { IsEnd result out.old out.new err.old err.new }
 {
     match report {
         Report::Check(check) => write_text(alloc, &check, reader, out, err),
-        Report::Explain => write_text(alloc, &Explanation, reader, out, err),
-        Report::Trace(form) => stream_text(alloc, &form, reader, out, err),
-        Report::Draw => write_text(alloc, &Drawing, reader, out, err),
+        Report::Explain(run) => match run {
+            Run::Own => write_text(alloc, &Explanation, reader, out, err),
+            Run::Seen => write_text(alloc, &AsSeen { what: Explanation }, reader, out, err),
+        },
+        Report::Trace(form, run) => match run {
+            Run::Own => match stream_input(alloc, &form, reader, out) {
+                Ok(document) => {
+                    // As in `write_text`, the system frees it.
+                    mem::forget(document);
+                    DONE
+                }
+                Err(fault) => tell_reader(out, err, &fault),
+            },
+            Run::Seen => write_text(alloc, &AsSeen { what: form }, reader, out, err),
+        },
+        Report::Count => write_text(alloc, &dsa_count::Totals, reader, out, err),
+        Report::Draw(run) => match run {
+            Run::Own => write_text(alloc, &Drawing, reader, out, err),
+            Run::Seen => write_text(alloc, &AsSeen { what: Drawing }, reader, out, err),
+        },
         Report::Conform => write_text(alloc, &Conformance, reader, out, err),
     }
 }
@@ -210,20 +189,16 @@ fn serve_input<R: Read, O: Write, E: Write>(
     out: &mut WatchedWriter<'_, O>,
     err: &mut WatchedWriter<'_, E>,
 ) -> u8
-    ensures same_output { IsSameWriter out.old out.new }
-    ensures same_writer { IsSameWriter err.old err.new }
     ensures done { result ≡ 0
         → IsServed (R.remaining reader.old) (R.remaining reader.new)
         (watched_contents O.contents out.old) (watched_contents O.contents out.new) }
     ensures failed { result ≡ 1
-        → (fault : ScenarioFault)
-        × IsStopped fault (R.remaining reader.old) (R.remaining reader.new)
-        (watched_contents O.contents out.old) (watched_contents O.contents out.new)
-        × (¬ IsLate fault → out.new ≡ out.old)
-        × IsWriteRefused fault out.new
-        × IsFaultTold out.new E.contents err.old err.new (fault_line fault) }
-    ensures quiet { IsQuiet result out.new err.old err.new }
-    ensures statuses { (result ≡ 0) ⊎ (result ≡ 1) }
+        → IsEndedBy (λ fault. IsServeStopped fault
+        (R.remaining reader.old) (R.remaining reader.new)
+        (watched_contents O.contents) out.old out.new
+        × IsWriteRefused fault out.new)
+        out.new E.contents err.old err.new }
+    ensures ends { IsEnd result out.old out.new err.old err.new }
 {
     match serve_watched(alloc, reader, out) {
         Ok(()) => DONE,
@@ -240,8 +215,6 @@ fn run_workers<T: Threads + Wait + Sync, O: Write, E: Write>(
     err: &mut WatchedWriter<'_, E>,
 ) -> u8
     requires { IsInRange load.now }
-    ensures same_output { IsSameWriter out.old out.new }
-    ensures same_writer { IsSameWriter err.old err.new }
     ensures done { result ≡ 0
         → (totals : Totals)
         × AreTotalsOf load.now totals
@@ -260,8 +233,7 @@ fn run_workers<T: Threads + Wait + Sync, O: Write, E: Write>(
         × (fault ≢ ThreadsFault.Write → out.new ≡ out.old)
         × (fault ≡ ThreadsFault.Write → has_refused out.new ≡ true)
         × IsFaultTold out.new E.contents err.old err.new (threads_fault_line fault) }
-    ensures quiet { IsQuiet result out.new err.old err.new }
-    ensures statuses { (result ≡ 0) ⊎ (result ≡ 1) }
+    ensures ends { IsEnd result out.old out.new err.old err.new }
 {
     match run_workload(rt, alloc, load, out) {
         Ok(()) => DONE,
@@ -309,9 +281,8 @@ fn show<O: Write, E: Write>(
     ensures told { kind_of error.now ≡ ErrorKind.OutOfMemory
         → IsFaultTold out.new E.contents err.old err.new (fault_line ScenarioFault.OutOfMemory) }
     ensures failed { result ≡ 1
-        → (fault : ScenarioFault)
-        × IsUnwritten fault out.old out.new
-        × IsFaultTold out.new E.contents err.old err.new (fault_line fault) }
+        → IsEndedBy (λ fault. IsUnwritten fault out.old out.new)
+        out.new E.contents err.old err.new }
     ensures quiet { IsQuiet result out.new err.old err.new }
     ensures statuses { result ≤ 2 }
 {
@@ -333,8 +304,9 @@ fn show<O: Write, E: Write>(
 /// Without words it reads a document from `reader` and writes its lines to `out`. With the word
 /// `threads` it runs workers in threads on one shared device, and writes their totals to `out`.
 /// With the word of a report it reads a document, and writes that to `out`, a trace row by row
-/// while the run is made. With the word `serve` it reads a document in one line and then a step in
-/// each line, and answers each before it reads on. Help goes to `out`.
+/// while the run is made, unless it shows the run that was seen. With the word `serve` it reads a
+/// document in one line and then a request in each line, and answers each before it reads on. Help
+/// goes to `out`.
 ///
 /// The status is 0 where all of it was written, and 1 on a fault, whose line goes to `err` unless
 /// nobody reads `out` any more. It is 2 on a usage error, and `err` gets what is to say of it.
@@ -371,11 +343,11 @@ pub fn answer_words<T: Threads + Wait + Sync, R: Read, O: Write, E: Write>(
     // Where it fails, the output is as it was, or has the first of the lines.
     ensures failed { (length words.now ≡ 0) ⊎ NameNothing (map string_bytes words.now)
         → result ≡ 1
-        → (fault : ScenarioFault)
-        × IsStoppedBy fault IsCutShort (R.remaining reader.old) (R.remaining reader.new)
+        → IsEndedBy (λ fault. IsStoppedBy fault IsCutShort
+        (R.remaining reader.old) (R.remaining reader.new)
         (watched_contents O.contents) out.old out.new
-        × IsWriteRefused fault out.new
-        × IsFaultTold out.new E.contents err.old err.new (fault_line fault) }
+        × IsWriteRefused fault out.new)
+        out.new E.contents err.old err.new }
     ensures threads_failed { result ≡ 1
         → (rows : List Row)
         → NameThreads (map string_bytes words.now) rows
@@ -392,38 +364,41 @@ pub fn answer_words<T: Threads + Wait + Sync, R: Read, O: Write, E: Write>(
     ensures reports_failed { result ≡ 1
         → (found : Text × List Row)
         → NameReport (map string_bytes words.now) found
-        → (fault : ScenarioFault)
-        × (IsReportWritten found (Some fault) (R.remaining reader.old) (R.remaining reader.new)
+        → IsEndedBy (λ fault. IsReportWritten found (Some fault)
+        (R.remaining reader.old) (R.remaining reader.new)
         (watched_contents O.contents out.old) (watched_contents O.contents out.new)
         ⊎ IsStoppedOnTheWay fault (IsReportCut found) (IsReportLeft found)
         (R.remaining reader.old) (R.remaining reader.new)
         (watched_contents O.contents) out.old out.new
         × IsWriteRefused fault out.new)
-        × IsFaultTold out.new E.contents err.old err.new (fault_line fault) }
+        out.new E.contents err.old err.new }
     ensures serve_failed { result ≡ 1
         → NameServe (map string_bytes words.now)
-        → (fault : ScenarioFault)
-        × IsStopped fault (R.remaining reader.old) (R.remaining reader.new)
-        (watched_contents O.contents out.old) (watched_contents O.contents out.new)
-        × (¬ IsLate fault → out.new ≡ out.old)
-        × IsWriteRefused fault out.new
-        × IsFaultTold out.new E.contents err.old err.new (fault_line fault) }
+        → IsEndedBy (λ fault. IsServeStopped fault
+        (R.remaining reader.old) (R.remaining reader.new)
+        (watched_contents O.contents) out.old out.new
+        × IsWriteRefused fault out.new)
+        out.new E.contents err.old err.new }
 
     // Help or the version, of which some could not be written.
     ensures help_failed { result ≡ 1
         → faults_of_words (map string_bytes words.now) ≢ []
-        → (fault : ScenarioFault)
-        × IsUnwritten fault out.old out.new
-        × IsFaultTold out.new E.contents err.old err.new (fault_line fault) }
+        → IsEndedBy (λ fault. IsUnwritten fault out.old out.new)
+        out.new E.contents err.old err.new }
+
+    // A threshold above the size: the status is 2, unless there is no memory for the words.
+    ensures high_threshold { (rows : List Row)
+        → NameThreads (map string_bytes words.now) rows
+        → SayHighThreshold rows
+        → (result ≡ 2)
+        ⊎ (result ≡ 1)
+        × (out.new ≡ out.old)
+        × IsFaultTold out.new E.contents err.old err.new (fault_line ScenarioFault.OutOfMemory) }
 
     // A usage error, and words that ask for no input.
     ensures refused { result ≡ 2 → (out.new ≡ out.old) × (reader.new ≡ reader.old) }
     ensures understood { result ≡ 0 → IsUnderstood (map string_bytes words.now) }
-    ensures unread { (rows : List Row)
-        → NameThreads (map string_bytes words.now) rows
-        → reader.new ≡ reader.old }
-    ensures not_read { faults_of_words (map string_bytes words.now) ≢ []
-        → reader.new ≡ reader.old }
+    ensures unread { AskNoInput (map string_bytes words.now) → reader.new ≡ reader.old }
     ensures mistake { result ≡ 2 → IsMistaken (map string_bytes words.now) }
     ensures quiet { IsQuiet result out.new err.old err.new }
     ensures statuses { (result ≡ 0) ⊎ (result ≡ 1) ⊎ ((result ≡ 2) × (1 ≤ length words.now)) }
@@ -487,19 +462,18 @@ pub fn run_words<T: Threads + Wait + Sync, R: Read, O: Write, E: Write>(
     ensures serve_failed { result ≡ 1
         → NameServe (map string_bytes words.now)
         → (fault : ScenarioFault)
-        × IsStopped fault (R.remaining reader.old) (R.remaining reader.new)
-        (O.contents out.old) (O.contents out.new)
-        × (¬ IsLate fault → out.new ≡ out.old) }
+        × IsServeStopped fault (R.remaining reader.old) (R.remaining reader.new)
+        O.contents out.old out.new }
 
     // A usage error, and words that ask for no input.
     ensures refused { result ≡ 2 → (out.new ≡ out.old) × (reader.new ≡ reader.old) }
     ensures understood { result ≡ 0 → IsUnderstood (map string_bytes words.now) }
-    ensures unread { (rows : List Row)
-        → NameThreads (map string_bytes words.now) rows
-        → reader.new ≡ reader.old }
-    ensures not_read { faults_of_words (map string_bytes words.now) ≢ []
-        → reader.new ≡ reader.old }
+    ensures unread { AskNoInput (map string_bytes words.now) → reader.new ≡ reader.old }
     ensures mistake { result ≡ 2 → IsMistaken (map string_bytes words.now) }
+    ensures high_threshold { (rows : List Row)
+        → NameThreads (map string_bytes words.now) rows
+        → SayHighThreshold rows
+        → (result ≡ 2) ⊎ (result ≡ 1) × (out.new ≡ out.old) }
     ensures quiet { result ≡ 0 → err.new ≡ err.old }
     ensures statuses { (result ≡ 0) ⊎ (result ≡ 1) ⊎ ((result ≡ 2) × (1 ≤ length words.now)) }
 {

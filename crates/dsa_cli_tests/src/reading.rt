@@ -1,6 +1,6 @@
 //! Words with which all of the input is read.
 
-use crate::runs::{DOCUMENT, Streams, Words, are_same, begins};
+use crate::runs::{Streams, Words, are_same, is_answered};
 use std::alloc::Global;
 use std::marker::Sync;
 use std::process::Abort;
@@ -20,16 +20,6 @@ pub const READERS: [(Words, &str); 9] = [
     (&["serve"], "nothing\n"),
 ];
 
-// One read gives all of the input, and one more its end.
-fn is_read<R: Threads + Wait + Sync + Abort>(rt: &R, alloc: Global, row: (Words, &str)) {
-    let (words, beginning) = row;
-    let mut streams = Streams::working(alloc, DOCUMENT.as_bytes());
-    let status = streams.run(rt, alloc, words);
-    let [reads, _, errors] = streams.calls();
-    are_same(rt, words, &(status, reads, errors), &(0, 2, 0));
-    begins(rt, words, &streams.output.taken, beginning);
-}
-
 // The status and the error of input that is no document.
 fn is_no_document<R: Threads + Wait + Sync + Abort>(rt: &R, alloc: Global, words: Words) {
     let mut streams = Streams::working(alloc, b"{");
@@ -45,16 +35,11 @@ fn is_no_document<R: Threads + Wait + Sync + Abort>(rt: &R, alloc: Global, words
 
 const NOT_JSON: &str = "dsa_run: not JSON\n";
 
+// One read gives all of the input, and one more its end.
 #[test]
-fn documents(rt: HostRuntime) {
-    for row in READERS {
-        is_read(&rt, rt.alloc(), row);
-    }
-}
-
-#[test]
-fn no_documents(rt: HostRuntime) {
-    for (words, _) in READERS {
+fn readers(rt: HostRuntime) {
+    for (words, beginning) in READERS {
+        is_answered(&rt, rt.alloc(), words, 2, beginning);
         is_no_document(&rt, rt.alloc(), words);
     }
 }

@@ -85,6 +85,21 @@ pub fn are_same<T: PartialEq + Debug>(rt: &impl Abort, words: Words, found: &T, 
     }
 }
 
+/// A document is answered without an error, by so many reads, and the output begins so.
+pub fn is_answered<R: Threads + Wait + Sync + Abort>(
+    rt: &R,
+    alloc: Global,
+    words: Words,
+    wanted: u32,
+    beginning: &str,
+) {
+    let mut streams = Streams::working(alloc, DOCUMENT.as_bytes());
+    let status = streams.run(rt, alloc, words);
+    let [reads, _, errors] = streams.calls();
+    are_same(rt, words, &(status, reads, errors), &(0, wanted, 0));
+    begins(rt, words, &streams.output.taken, beginning);
+}
+
 /// Ends the test where the text does not begin so.
 pub fn begins(rt: &impl Abort, words: Words, text: &[u8], beginning: &str) {
     if !text.starts_with(beginning.as_bytes()) {

@@ -1,6 +1,6 @@
 //! Words with which nothing is read.
 
-use crate::runs::{DOCUMENT, Streams, Words, are_same, begins};
+use crate::runs::{DOCUMENT, Streams, Words, are_same, begins, is_answered};
 use dsa_release::version_text;
 use std::alloc::Global;
 use std::marker::Sync;
@@ -77,33 +77,17 @@ fn are_refused<R: Threads + Wait + Sync + Abort>(rt: &R, alloc: Global, words: W
     begins(rt, words, &streams.errors.taken, "error: ");
 }
 
-fn are_answered<R: Threads + Wait + Sync + Abort>(
-    rt: &R,
-    alloc: Global,
-    words: Words,
-    beginning: &str,
-) {
-    let mut streams = Streams::working(alloc, DOCUMENT.as_bytes());
-    let status = streams.run(rt, alloc, words);
-    let [reads, _, errors] = streams.calls();
-    are_same(rt, words, &(status, reads, errors), &(0, 0, 0));
-    begins(rt, words, &streams.output.taken, beginning);
-}
-
+// No number of words is told as want of memory.
 #[test]
 fn wrong_words(rt: HostRuntime) {
+    const MANY: [&str; 400] = ["threads"; 400];
+    are_refused(&rt, rt.alloc(), &MANY);
     for words in WRONG {
         are_refused(&rt, rt.alloc(), words);
     }
 }
 
-// No number of words, and no length of one, is told as want of memory.
-#[test]
-fn many_words(rt: HostRuntime) {
-    const MANY: [&str; 400] = ["threads"; 400];
-    are_refused(&rt, rt.alloc(), &MANY);
-}
-
+// Nor is the length of one.
 #[test]
 fn a_long_word(rt: HostRuntime) {
     let mut long = String::new(rt.alloc());
@@ -124,7 +108,7 @@ fn a_long_word(rt: HostRuntime) {
 #[test]
 fn help_version_and_threads(rt: HostRuntime) {
     for (words, beginning) in RIGHT {
-        are_answered(&rt, rt.alloc(), words, beginning);
+        is_answered(&rt, rt.alloc(), words, 0, beginning);
     }
 }
 

@@ -6,7 +6,7 @@ use Rattle.std.proofs.Common.{append-nil, add-one}
 use Rattle.std.proofs.lemmas.Bool.{and_parts, ltb-true, not-true, eqb-true, eqb-false}
 use Rattle.std.proofs.lemmas.{Option.{same_Some}, List.{length-map}}
 use Rattle.std.proofs.lemmas.List.Elements.{All-nil, All-cons, All-head, All-tail, All-append, All-push, All-contains}
-use Rattle.std.proofs.lemmas.List.Elements.{All-weaker, Contains-append_left, Contains-append_right, Contains-push}
+use Rattle.std.proofs.lemmas.List.Elements.{Contains-append_left, Contains-append_right, Contains-push}
 use Rattle.std.proofs.lemmas.List.Elements.{filter_map-append}
 use Rattle.std.proofs.Math.ListN.{get_or-map}
 use Rattle.std.specs.{Prelude.{All, Contains}, List.{list_any}}
@@ -14,14 +14,14 @@ use Rattle.dsa_base.{specs.{Lists.{In}, Numbers.{numbers_below}, Rows.{passes}},
 use Rattle.dsa_base.proofs.Tables.{not-both}
 use Rattle.dsa_store.specs.Content.{HeldEntry}
 use Rattle.dsa_regs.specs.declared.Fault.{Fault}
-use Rattle.dsa_book.specs.declared.answer.{Ticket.{Ticket}, DispatchAnswer.TheVariants.{Taken, Idle}}
+use Rattle.dsa_book.specs.declared.answer.{DispatchAnswer.TheVariants.{Taken, Idle}}
 use Rattle.dsa_book.specs.declared.answer.Reply.{Reply}
 use Rattle.dsa_book.specs.declared.answer.Reply.TheVariants.{Dispatch}
-use Rattle.dsa_book.specs.declared.event.{Event.{Event, TheVariants.{Dispatch}}, Step.{Step}}
+use Rattle.dsa_book.specs.declared.event.{Event.{Event, TheVariants.{Dispatch}}}
 use Rattle.dsa_book.specs.Choice.{Choice, choice_of, nothing, in_cell, from_queue}
-use Rattle.dsa_book.specs.Machine.{may_choose, next, reply_of, with_work}
+use Rattle.dsa_book.specs.Machine.{may_choose, next, reply_of}
 use Rattle.dsa_book.specs.State.{Work, State, ticket_of_entry}
-use Rattle.dsa_book.specs.Work.{qualifies, may_take, front_of, dispatch_of, dispatch}
+use Rattle.dsa_book.specs.Work.{qualifies, may_take, front_of, dispatch_of}
 use Rattle.dsa_book.proofs.Nexts.{next-is, next-of, next-each}
 use Rattle.dsa_device.{specs.Running.{Running, running_after, after_answer}, proofs.Steps.{answered_by_cases}}
 use Rattle.dsa_scenario.specs.declared.run.Record.{Record, TheVariants.{Stepped, Refused}}

@@ -2,10 +2,10 @@
 use Rattle.dsa_book.specs.declared.answer.Reply.TheVariants as reply
 use Rattle.dsa_book.specs.declared.event.Event.TheVariants as event
 use Rattle.std.proofs.Common.{◌≡◌, ◌⊎◌, inl, inr, ℕ, ◌+◌, ◌==◌, ◌^◌, ◌≤◌, Bool, true, false, List, [], ◌∷◌, ◌++◌, length}
-use Rattle.std.proofs.Common.{map, filter_map, take, Option, Some, None, Result, Ok, Err, refl, sym, ap, subst, ◌∙◌, arith}
+use Rattle.std.proofs.Common.{map, filter_map, take, Option, Some, None, Result, Ok, refl, sym, ap, subst, ◌∙◌, arith}
 use Rattle.std.proofs.Common.{append_assoc, append-nil, string_bytes}
 use Rattle.std.proofs.lemmas.{Option.{same_Some}, List.Elements.{filter_map-append}}
-use Rattle.std.specs.Prelude.{All, Contains, slice_get, IsTrue, not}
+use Rattle.std.specs.Prelude.{slice_get, IsTrue, not}
 use Rattle.serde_json.specs.Data.{Data}
 use Rattle.dsa_base.{specs.Lists.{In}, proofs.{Tables.{not-both}, Lists.{In-push, In-left, In-right}}}
 use Rattle.dsa_regs.specs.{declared.{Caps.{Caps}, Fault.{Fault}}, Caps.{check_caps}}
@@ -14,7 +14,7 @@ use Rattle.dsa_book.specs.declared.event.{Event.{Event}, Step.{Step}}
 use Rattle.dsa_book.specs.{State.{State}, Machine.{next, full_reply, reply_of}, Choice.{from_queue}, Work.{qualifies}}
 use Rattle.dsa_book.proofs.{Nexts.{next-is}, EqualReplies.{equal-replies}}
 use Rattle.dsa_answers.proofs.Alike.{alike-qualifies}
-use Rattle.dsa_device.specs.Running.{Running, running_at_first, running_after, after_answer, IsReplay}
+use Rattle.dsa_device.specs.Running.{Running, running_at_first, after_answer, IsReplay}
 use Rattle.dsa_device.proofs.Steps.{answered_by_cases}
 use Rattle.dsa_scenario.specs.declared.actions.Action.{Action, TheVariants.{Ask, Finish, Refuse}}
 use Rattle.dsa_scenario.specs.declared.run.Record.{Record, TheVariants.{Stepped, Refused}}
@@ -22,17 +22,17 @@ use Rattle.dsa_scenario.specs.{Lines.{record_text}, Steps.{standing}}
 use Rattle.dsa_scenario.specs.Run.{ticket_given_by, event_of, answered_by, Leads, IsTable}
 use Rattle.dsa_explain_lines.specs.Parts.{part_of}
 use Rattle.dsa_conform.specs.declared.{way.Way.{Way}, told.{Told.{Told}, Line.{Line}}}
-use Rattle.dsa_conform.specs.Allowed.{IsAllowed, AreAllowed, NoneShows, AreSeenAlike}
-use Rattle.dsa_conform.specs.Lines.{allowed_line, difference_text}
-use Rattle.dsa_conform.specs.Run.{IsShownRun, IsFollowedTo, IsDifference, IsAllowedLine, AreAllLines}
+use Rattle.dsa_conform.specs.Allowed.{IsAllowed, AreSeenAlike}
+use Rattle.dsa_conform.specs.Lines.{allowed_line}
+use Rattle.dsa_conform.specs.Run.{IsFollowedTo, IsDifference, IsAllowedLine, AreAllLines}
 use Rattle.dsa_conform.specs.Seen.{Seen, shows}
-use Rattle.dsa_conform.specs.ToldLines.{IsTextTold, AreLinesTold, HasText, line_as}
-use Rattle.dsa_conform.specs.Ways.{AreDevicesAlike, IsNamedEnd, IsStepOfRun, RunFrom, queue_of_reply, queue_of_record, queues_taken}
+use Rattle.dsa_conform.specs.ToldLines.{IsTextTold, AreLinesTold, line_as}
+use Rattle.dsa_conform.specs.Ways.{AreDevicesAlike, IsNamedEnd, RunFrom, queue_of_reply, queue_of_record, queues_taken}
 use Rattle.dsa_conform.specs.Ways.{IsOneWay, IsFork, IsAmong, Covers, IsTold, AllFollow, AllAreAmong, HasOne, AreNamedEnds}
 use Rattle.dsa_conform.specs.Ways.{IsReadTo, IsOn, IsFollowedOn, IsWayBy, IsAdded, AreAdded, IsGone, IsOneGone, AreGone}
-use Rattle.dsa_conform.specs.Ways.{AreFollowed, AreStepped, AreGoneOn, AreOn, IsGoneOn}
+use Rattle.dsa_conform.specs.Ways.{AreFollowed, AreGoneOn, AreOn, IsGoneOn}
 use Rattle.dsa_conform.proofs.Choices.{empty_list, filled_list, all_in, contains_in, in_map, map_in, takes_from, is_dispatch, answered_otherwise}
-use Rattle.dsa_conform.proofs.Runs.{EndsWith, ends_with, run_push, run_of, IsGood, good_run, good_at_first, StayAlike}
+use Rattle.dsa_conform.proofs.Runs.{ends_with, run_push, run_of, IsGood, good_run, good_at_first}
 use Rattle.dsa_conform.proofs.Runs.{stay_alike, same_runs, queues_told, queues_of_run}
 use Rattle.dsa_conform.proofs.SameLines.{same_line}
 use Rattle.dsa_conform.proofs.Walks.{followed_more, shown_run, stands_at}

@@ -1,5 +1,5 @@
 -- The faults of a document that are told where no object of it is.
-use Rattle.std.proofs.Common.{◌≡◌, ◌⊎◌, ◌∙◌, ◌^◌, ◌<◌, inl, inr, ℕ, true, false, List, [], Option, Some, None, sym, ap}
+use Rattle.std.proofs.Common.{◌≡◌, ◌⊎◌, ◌∙◌, inl, inr, ℕ, List, [], Option, Some, None, sym, ap}
 use Rattle.std.proofs.Common.{option_map, subst}
 use Rattle.std.proofs.lemmas.Option.{slice_get-map}
 use Rattle.std.specs.{Prelude.{slice_get}, Option.{option_map_or}}

@@ -2,17 +2,16 @@
 use Rattle.dsa_book.specs.declared.answer.Reply.TheVariants as reply
 use Rattle.dsa_book.specs.declared.event.Event.TheVariants as event
 use Rattle.std.proofs.Common.{◌≡◌, ◌<◌, ◌≤◌, ◌==◌, ◌+◌, ℕ, Bool, true, false, List, [], ◌∷◌, length, Option, Some, None, inl, inr, ◌⊎◌}
-use Rattle.std.proofs.Common.{Result, Ok, Err, refl, sym, ap, subst, ◌∙◌, arith, filter_map}
+use Rattle.std.proofs.Common.{Result, Ok, refl, sym, ap, subst, ◌∙◌, arith}
 use Rattle.std.proofs.lemmas.{Option.{same_Some}, Bool.{eqb-true, eqb-false}, List.Elements.{All-contains}}
-use Rattle.dsa_base.{specs.{Lists.{In}, Numbers.{numbers_below}}, proofs.{Tables.{not-both}, Lists.{In-alone, In-only}}}
+use Rattle.dsa_base.{specs.{Lists.{In}}, proofs.{Tables.{not-both}, Lists.{In-alone, In-only}}}
 use Rattle.dsa_regs.specs.declared.Fault.{Fault}
-use Rattle.dsa_book.specs.declared.{answer.{Reply.{Reply}, DispatchAnswer.TheVariants.{Taken}}, event.{Event.{Event}, Step.{Step}}}
+use Rattle.dsa_book.specs.declared.{answer.{Reply.{Reply}, DispatchAnswer.TheVariants.{Taken}}, event.{Event.{Event}}}
 use Rattle.dsa_book.specs.{State.{State, Work}, Machine.{next, full_reply, reply_of}, Choice.{from_queue}, Work.{qualifies}}
 use Rattle.dsa_book.proofs.{EqualReplies.{equal-replies}, Nexts.{next-is}}
-use Rattle.dsa_device.specs.Running.{Running, after_answer, running_after}
+use Rattle.dsa_device.specs.Running.{Running}
 use Rattle.dsa_device.proofs.Steps.{answered_by_cases}
 use Rattle.dsa_scenario.specs.declared.run.Record.{Record, TheVariants.{Stepped, Refused}}
-use Rattle.dsa_scenario.specs.Run.{answered_by}
 use Rattle.dsa_conform.specs.Allowed.{IsAllowed, IsNoDispatch, offer, offers}
 use Rattle.dsa_conform.specs.{Seen.{Seen, shows}, Ways.{IsFork, IsOneWay, queue_of_record, queue_of_reply}}
 use Rattle.dsa_conform.proofs.SeenAlike.{NoneTaken, event_in}

@@ -6,6 +6,7 @@ pub mod SeenAlike
 pub mod Likeness
 pub mod Runs
 pub mod Choices
+pub mod ClosestAnswers
 pub mod Faults
 pub mod Companions
 pub mod Forks
@@ -18,6 +19,7 @@ pub mod Placing
 pub mod Steps
 pub mod Walks
 pub mod Verdicts
+pub mod ToldAgain
 pub mod Chars
 pub mod ReadBack
 pub mod Printable

@@ -7,7 +7,7 @@ use Rattle.std.specs.Prelude.{insert, slice_get}
 use Rattle.dsa_base.{specs.Lists.{In}, proofs.Lists.{In-append, In-push, In-left, In-right}}
 use Rattle.dsa_scenario.specs.declared.run.Record.{Record}
 use Rattle.dsa_conform.specs.declared.told.Line.{Line}
-use Rattle.dsa_conform.specs.{Allowed.{queue_taken}, Lines.{IsPairwise, AreInOrder, AreDifferent, AreListed}}
+use Rattle.dsa_conform.specs.{Allowed.{queue_taken}, Lines.{IsPairwise, AreInOrder, AreListed}}
 use Rattle.dsa_conform.specs.ToldLines.{HasText, IsPlaceOf, line_as}
 use Rattle.dsa_conform.proofs.Choices.{in_map, map_in}
 

@@ -5,14 +5,13 @@ use Rattle.std.proofs.Common.{take, get_or, option_map}
 use Rattle.std.proofs.lemmas.List.{take_more, length-map, map-append}
 use Rattle.std.proofs.lemmas.Option.{slice_get-map, slice_get_read, get_or_from_slice_get, same_Some}
 use Rattle.std.proofs.Math.ListN.{get_or-map}
-use Rattle.std.specs.Prelude.{IsUtf8, slice_get, is_none, false, option_and_then}
-use Rattle.dsa_scenario.specs.Actions.{action_of}
+use Rattle.std.specs.Prelude.{IsUtf8, slice_get, is_none, false}
 use Rattle.serde_json.specs.{View.{view}, Data.{Data, Items}, Read.{read}, declared.value.Value.{Value}}
 use Rattle.dsa_regs.specs.declared.Caps.{Caps}
 use Rattle.dsa_scenario.specs.Document.{head_of, list_of_items}
 use Rattle.dsa_scenario.proofs.Heads.{head_by}
 use Rattle.dsa_scenario.specs.declared.actions.Action.{Action}
-use Rattle.dsa_conform.specs.{Seen.{Seen, seen_of, observation_of}, Run.{AreRead, IsUnread, IsUnreadAt}}
+use Rattle.dsa_conform.specs.{Seen.{Seen, observation_of}, Run.{AreRead, IsUnread, IsUnreadAt}}
 
 -- the item is that of the list, as JSON
 item_at : (vs : List Value) (i : ℕ) (v : Value) → i < length vs → v ≡ get_or vs i v

@@ -9,7 +9,6 @@ use Rattle.dsa_book.specs.declared.answer.IssueAnswer.TheVariants as issue
 use Rattle.dsa_book.specs.declared.answer.PollAnswer.TheVariants as poll
 use Rattle.dsa_book.specs.declared.answer.WriteAnswer.TheVariants as write
 use Rattle.dsa_book.specs.declared.answer.ClearAnswer.TheVariants as clear
-use Rattle.dsa_book.specs.declared.answer.Reply.TheVariants as reply
 use Rattle.dsa_regs.specs.declared.Scope.TheVariants as scope
 use Rattle.dsa_regs.specs.declared.layout.ListUse.TheVariants as list
 use Rattle.std.proofs.Common.{arith, ◌≡◌, find, sym, ap, subst, ℕ, List, ◌++◌, Bool, true, false, cond, refl}
@@ -39,7 +38,7 @@ use Rattle.dsa_desc.specs.Descriptor.{check, status}
 use Rattle.dsa_store.specs.Content.{HeldEntry}
 use Rattle.dsa_book.specs.State.{State, Work, is_ticket}
 use Rattle.dsa_book.specs.Work.{last_status, finish_of, must_wait, after_end, running_on}
-use Rattle.dsa_book.specs.{Machine.{next, reply_of, full_reply}, Choice.{Choice, choice_of}}
+use Rattle.dsa_book.specs.{Machine.{reply_of, full_reply}, Choice.{Choice, choice_of}}
 use Rattle.dsa_book.proofs.{EqualReplies.{equal-replies}, Nexts.{next-is}}
 use Rattle.dsa_device.specs.Running.{Running, after_answer}
 use Rattle.dsa_device.proofs.Steps.{answered_by_cases}

@@ -1,9 +1,16 @@
 -- What a line and a report must have, which worked rows compute.
-use Rattle.std.proofs.Common.{◌≡◌, ◌∙◌, ◌==◌, ℕ, List, [], ◌∷◌, ◌++◌, Bool, true, false, cond, refl, sym, ap, subst}
+use Rattle.std.proofs.Common.{◌≡◌, ◌∙◌, ◌==◌, ℕ, suc, List, [], ◌∷◌, ◌++◌, true, cond, refl, sym, ap, subst}
 use Rattle.std.proofs.Common.{append_assoc, append-nil, length, take, codes}
 use Rattle.std.proofs.lemmas.Bool.{and_parts, ne_eqb, false≢true}
-use Rattle.std.specs.List.{list_all}
-use Rattle.dsa_conform.specs.{Quoted.{is_printable}, Forms.{IsLineWith, AreLinesWith}}
+use Rattle.std.specs.{Prelude.{replicate}, List.{list_all}}
+use Rattle.dsa_conform.specs.{Quoted.{is_printable}, Forms.{IsLineWith, AreLinesWith, words_of_difference}}
+
+-- a line of this word and what follows it, and the lines behind it
+pub line_before : (word rest : List ℕ) (words : List (List ℕ)) (more : List ℕ)
+    → list_all is_printable (word ++ rest) ≡ true → AreLinesWith words more
+    → AreLinesWith (word ∷ words) ((word ++ rest ++ codes "\n") ++ more)
+line_before word rest words more printable next =
+    (word ++ rest ++ codes "\n", more, record { rest = rest; is = refl; printable = printable }, next, refl)
 
 -- a text without its last byte, and that byte
 unfoldable pub front : List ℕ → List ℕ
@@ -75,3 +82,24 @@ next_lines word words text h =
     (sym (ap after_feed (h.4 ∙ ap (λ l. l ++ h.1) h.2.is ∙ append_assoc (word ++ h.2.rest) (codes "\n") h.1)
     ∙ passed (word ++ h.2.rest) h.1 h.2.printable))
     h.3
+
+-- the words of the lines of a difference, in turn
+module _ (allowed : ℕ) (text : List ℕ) (h : AreLinesWith (words_of_difference (suc allowed)) text) where
+  abbrev all_allowed : List (List ℕ)
+  all_allowed = replicate (suc allowed) (codes "allowed: ")
+
+  after_step : AreLinesWith (codes "seen: " ∷ all_allowed) (after_feed text)
+  after_step = next_lines (codes "step ") (codes "seen: " ∷ all_allowed) text h
+
+  after_seen : AreLinesWith all_allowed (after_feed (after_feed text))
+  after_seen = next_lines (codes "seen: ") all_allowed (after_feed text) after_step
+
+  pub word_of_step : take 5 text ≡ codes "step "
+  word_of_step = word_of_lines (codes "step ") (codes "seen: " ∷ all_allowed) text h
+
+  pub word_of_seen : take 6 (after_feed text) ≡ codes "seen: "
+  word_of_seen = word_of_lines (codes "seen: ") all_allowed (after_feed text) after_step
+
+  pub word_of_allowed : take 9 (after_feed (after_feed text)) ≡ codes "allowed: "
+  word_of_allowed =
+      word_of_lines (codes "allowed: ") (replicate allowed (codes "allowed: ")) (after_feed (after_feed text)) after_seen

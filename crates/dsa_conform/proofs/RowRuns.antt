@@ -3,7 +3,7 @@ use Rattle.dsa_book.specs.declared.answer.Reply.TheVariants as reply
 use Rattle.dsa_book.specs.declared.event.Event.TheVariants as event
 use Rattle.dsa_book.specs.declared.answer.PollAnswer.TheVariants as poll
 use Rattle.std.specs.Fmt.{digits}
-use Rattle.std.proofs.Common.{◌≡◌, ◌⊎◌, inl, inr, ℕ, true, false, List, [], ◌∷◌, ◌++◌, Ok, Err, refl, sym, ap, subst, codes, Result, ◌∙◌, ◌≤◌, ◌^◌, arith, lit≤}
+use Rattle.std.proofs.Common.{◌≡◌, inl, inr, ℕ, true, false, List, [], ◌∷◌, ◌++◌, Ok, refl, sym, ap, subst, codes, Result, ◌∙◌, ◌≤◌, ◌^◌, arith, lit≤}
 use Rattle.dsa_base.{specs.Lists.{In}, proofs.Tables.{not-both}}
 use Rattle.dsa_regs.specs.declared.{Caps.{Caps}, Fault.{Fault, TheVariants.{BadCommand}}}
 use Rattle.dsa_book.specs.declared.event.Event.{Event}
@@ -15,7 +15,7 @@ use Rattle.dsa_explain_lines.specs.Parts.{part_of}
 use Rattle.dsa_conform.specs.Allowed.{IsAllowed}
 use Rattle.dsa_conform.specs.Lines.{allowed_line, difference_text}
 use Rattle.dsa_conform.specs.Run.{IsShownRun, IsDifference, IsAllowedLine, IsReason, AreAllLines}
-use Rattle.dsa_conform.specs.{Seen.{Seen, shows, AreShown}, Ways.{RunFrom}, Worked.{answered, nothing_seen, smallest_device_at_first}}
+use Rattle.dsa_conform.specs.{Seen.{Seen, nothing_seen, shows, AreShown}, Ways.{RunFrom}, Worked.{answered, smallest_device_at_first}}
 use Rattle.dsa_conform.proofs.Runs.{ends_with, run_of}
 use Rattle.dsa_conform.proofs.SeenAlike.{only_entry}
 

@@ -9,7 +9,7 @@ use Rattle.dsa_book.specs.declared.answer.PollAnswer.TheVariants as poll
 use Rattle.dsa_book.specs.declared.answer.WriteAnswer.TheVariants as write
 use Rattle.dsa_book.specs.declared.answer.ClearAnswer.TheVariants as clear
 use Rattle.dsa_book.specs.declared.answer.Reply.TheVariants as reply
-use Rattle.std.proofs.Common.{◌≡◌, ◌∙◌, ◌==◌, Bool, true, false, ℕ, List, [], ◌∷◌, ◌++◌, codes, refl, sym, ap}
+use Rattle.std.proofs.Common.{◌≡◌, ◌∙◌, ◌==◌, Bool, false, ℕ, List, [], ◌∷◌, ◌++◌, codes, refl, sym, ap}
 use Rattle.std.specs.Prelude.{cond}
 use Rattle.dsa_book.specs.declared.answer.Reply.{Reply}
 use Rattle.dsa_scenario.specs.declared.run.Record.{Record, TheVariants.{Stepped, Refused}}
@@ -22,43 +22,19 @@ begins_taken : List ℕ → Bool
 begins_taken [] = false
 begins_taken (byte ∷ rest) = byte == 116
 
+-- by cases of the answer of each kind
 taken_by_text : (r : Reply) → is_taken_by r ≡ begins_taken (reply_text r)
 unfolding begins_taken
-taken_by_text (reply.Submit (submit.Accepted t)) = refl
-taken_by_text (reply.Submit (submit.Retry c)) = refl
-taken_by_text (reply.Submit (submit.Dropped c)) = refl
 taken_by_text (reply.Submit submit.Full) = refl
-taken_by_text (reply.Dispatch (dispatch.Taken t q)) = refl
-taken_by_text (reply.Dispatch dispatch.Idle) = refl
 taken_by_text (reply.Dispatch dispatch.Full) = refl
-taken_by_text (reply.Fetch (fetch.Fetched t)) = refl
-taken_by_text (reply.Fetch fetch.NoBatch) = refl
-taken_by_text (reply.Fetch fetch.AllFetched) = refl
 taken_by_text (reply.Fetch fetch.Full) = refl
-taken_by_text (reply.Start (start.Started t)) = refl
-taken_by_text (reply.Start start.FenceWait) = refl
-taken_by_text (reply.Start start.NoBuffers) = refl
-taken_by_text (reply.Start (start.Abandoned n)) = refl
-taken_by_text (reply.Start start.Nothing) = refl
 taken_by_text (reply.Start start.Full) = refl
-taken_by_text (reply.Finish (finish.Done n)) = refl
-taken_by_text (reply.Finish finish.NotReady) = refl
-taken_by_text (reply.Finish finish.Gone) = refl
 taken_by_text (reply.Finish finish.Full) = refl
-taken_by_text (reply.Issue (issue.Ended n)) = refl
-taken_by_text (reply.Issue issue.Active) = refl
-taken_by_text (reply.Issue (issue.Refused f)) = refl
 taken_by_text (reply.Issue issue.Full) = refl
-taken_by_text (reply.Poll poll.Finished) = refl
-taken_by_text (reply.Poll poll.Active) = refl
-taken_by_text (reply.Poll poll.Nothing) = refl
 taken_by_text (reply.Poll poll.Full) = refl
-taken_by_text (reply.Write write.Written) = refl
-taken_by_text (reply.Write (write.Refused f)) = refl
 taken_by_text (reply.Write write.Full) = refl
-taken_by_text (reply.Clear (clear.Cleared noted)) = refl
-taken_by_text (reply.Clear clear.Nothing) = refl
 taken_by_text (reply.Clear clear.Full) = refl
+taken_by_text _ = refl
 
 taken_text : (entry : Record) → is_taken entry ≡ begins_taken (record_text entry)
 unfolding begins_taken

@@ -2,24 +2,20 @@
 use Rattle.std.proofs.Common.{◌≡◌, ◌<◌, ◌≤◌, ℕ, ◌+◌, List, [], ◌∷◌, ◌++◌}
 use Rattle.std.proofs.Common.{Option, Some, None, refl, sym, ap, ◌∙◌, subst, map}
 use Rattle.std.proofs.Common.{take, length, cond, get_or, arith}
-use Rattle.std.proofs.lemmas.{Option.{same_Some}, List.{take_all, length-map, Sums.{sum_by_push}}}
+use Rattle.std.proofs.lemmas.{Option.{same_Some}, List.{take_all, Sums.{sum_by_push}}}
 use Rattle.serde_json.specs.{View.{view}, declared.value.Value.{Value}}
 use Rattle.dsa_regs.specs.declared.Caps.{Caps}
 use Rattle.dsa_book.specs.declared.answer.Ticket.{Ticket}
 use Rattle.dsa_device.specs.Running.{Running}
-use Rattle.std.proofs.Common.{Bool, true, false, ◌^◌, Result, filter_map}
-use Rattle.std.specs.Prelude.{slice_get}
+use Rattle.std.proofs.Common.{Bool, true, false}
 use Rattle.serde_json.specs.Data.{Data}
-use Rattle.dsa_regs.specs.{declared.Fault.{Fault}, Caps.{check_caps}}
-use Rattle.dsa_book.specs.declared.event.Event.{Event}
-use Rattle.dsa_scenario.specs.declared.{run.Record.{Record}, faults.ScenarioFault.{ScenarioFault}}
+use Rattle.dsa_scenario.specs.declared.{faults.ScenarioFault.{ScenarioFault}}
 use Rattle.dsa_scenario.specs.declared.faults.ScenarioFault.TheVariants as fault
-use Rattle.dsa_scenario.specs.{Document.{HasHead, IsOpenable}, Run.{ticket_given_by, event_of, IsTable}}
-use Rattle.dsa_explain_lines.specs.Parts.{part_of}
+use Rattle.dsa_scenario.specs.{Document.{HasHead, IsOpenable}}
 use Rattle.dsa_conform.specs.declared.way.Way.{Way}
 use Rattle.dsa_scenario.specs.declared.actions.Action.{Action}
 use Rattle.dsa_conform.specs.Lines.{conforms_text, seen_count}
-use Rattle.dsa_conform.specs.Run.{AreRead, IsConforming, IsDifference, IsDiffering, IsFollowedTo, IsVerdict, IsConformance}
+use Rattle.dsa_conform.specs.Run.{AreRead, IsConforming, IsDifference, IsDiffering, IsFollowedTo, IsToldOf}
 use Rattle.dsa_conform.specs.Seen.{Seen, is_seen, observation_of}
 use Rattle.dsa_conform.specs.Ways.{AreFollowed, IsReadTo}
 use Rattle.dsa_conform.proofs.{Objects.{IsReadAt, read_at, count_read}, Walks.{reached}}
@@ -124,12 +120,16 @@ pub at_most : (b : Bool) (answers more i : ℕ) → more ≡ answers + cond b 1 
 at_most true answers more i adds h = omega (arith, adds, h)
 at_most false answers more i adds h = omega (arith, adds, h)
 
--- a verdict on the steps of a document
-pub conformance_of : (bytes : List ℕ) (caps : Caps) (capacity : ℕ) (steps : List Data) (fault : Option ScenarioFault)
+-- what is told of the steps of a document
+pub told_of : (is_told : Caps → ℕ → List Data → Option ScenarioFault → List ℕ → Type 0)
+    → ((caps : Caps) → (capacity : ℕ) → (steps : List Data) → (i : ℕ) → (text : List ℕ)
+    → ¬ is_told caps capacity steps (Some (fault.BadStep i)) text)
+    → (bytes : List ℕ) (caps : Caps) (capacity : ℕ) (steps : List Data) (fault : Option ScenarioFault)
     (text : List ℕ) → HasHead bytes caps capacity steps → IsOpenable caps capacity
-    → IsVerdict caps capacity steps fault text → IsConformance bytes fault text
-conformance_of bytes caps capacity steps None text head opening h =
+    → is_told caps capacity steps fault text → IsToldOf is_told bytes fault text
+told_of is_told all bytes caps capacity steps None text head opening h =
     record { caps = caps; capacity = capacity; steps = steps; head = head; opening = opening; verdict = h }
-conformance_of bytes caps capacity steps (Some (fault.Differs i)) text head opening h =
+told_of is_told all bytes caps capacity steps (Some (fault.BadStep i)) text head opening h =
+    absurd (all caps capacity steps i text h)
+told_of is_told all bytes caps capacity steps (Some _) text head opening h =
     record { caps = caps; capacity = capacity; steps = steps; head = head; opening = opening; verdict = h }
-conformance_of bytes caps capacity steps (Some _) text head opening h = absurd h

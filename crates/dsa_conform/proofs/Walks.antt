@@ -1,27 +1,27 @@
 -- One step more of a walk by what was seen, and where it ends.
 use Rattle.std.proofs.Common.{◌≡◌, ℕ, ◌+◌, Bool, true, false, List, []}
-use Rattle.std.proofs.Common.{◌∷◌, ◌++◌, Option, Some, None, Result, refl, sym, ap}
-use Rattle.std.proofs.Common.{◌∙◌, subst, map, filter_map}
+use Rattle.std.proofs.Common.{◌∷◌, ◌++◌, Option, Some, None, refl, ap}
+use Rattle.std.proofs.Common.{subst, map, filter_map}
 use Rattle.std.proofs.lemmas.List.{map-append}
 use Rattle.std.specs.Prelude.{slice_get, is_some, ◌&&◌, ◌||◌}
-use Rattle.dsa_regs.specs.declared.{Caps.{Caps}, Fault.{Fault}}
-use Rattle.dsa_book.specs.declared.{answer.Ticket.{Ticket}, event.Event.{Event}}
-use Rattle.dsa_device.specs.{Running.{Running, running_at_first, IsReplay}}
+use Rattle.dsa_regs.specs.declared.{Caps.{Caps}}
+use Rattle.dsa_book.specs.declared.{answer.Ticket.{Ticket}}
+use Rattle.dsa_device.specs.{Running.{Running}}
 use Rattle.dsa_scenario.specs.declared.{actions.Action.{Action}, run.Record.{Record}}
 use Rattle.dsa_scenario.specs.Run.{ticket_given_by, event_of, answered_by, Leads, IsTable}
-use Rattle.dsa_scenario.specs.Steps.{standing, Visit, visit, visits, IsAtFirst, IsWalkTo}
+use Rattle.dsa_scenario.specs.Steps.{standing, Visit, visits, IsAtFirst}
 use Rattle.dsa_scenario.proofs.Walks.{stands, one_more, opened}
 use Rattle.dsa_conform.specs.Run.{IsShownRun, IsFollowedTo}
 use Rattle.dsa_conform.specs.Seen.{Seen, is_seen, answer_shown, zf_shown, shows, AreShown}
 
 -- the records of a run's steps are its records
-entries-visits : (caps : Caps) (capacity : ℕ) (before records : List Record)
+pub entries-visits : (caps : Caps) (capacity : ℕ) (before records : List Record)
     → map (λ (step : Visit). step.entry) (visits caps capacity before records) ≡ records
 entries-visits caps capacity before [] = refl
 entries-visits caps capacity before (r ∷ rs) = ap (λ l. r ∷ l) (entries-visits caps capacity (before ++ r ∷ []) rs)
 
 -- one answer more that shows what was seen of it
-shown-push : (seens : List Seen) (entries : List Record) (seen : Seen) (entry : Record) → AreShown seens entries
+pub shown-push : (seens : List Seen) (entries : List Record) (seen : Seen) (entry : Record) → AreShown seens entries
     → shows seen entry ≡ true → AreShown (seens ++ seen ∷ []) (entries ++ entry ∷ [])
 shown-push [] [] seen entry h here = (here, tt)
 shown-push [] (r ∷ rs) seen entry h here = absurd h

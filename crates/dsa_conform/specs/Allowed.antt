@@ -81,3 +81,10 @@ IsFollowed now asked seen new (Shown entry) =
     (answered_by entry ≡ asked) × Leads now entry new × (shows seen entry ≡ true)
 IsFollowed now asked seen new (Differs allowed) =
     AreAllowed now asked allowed.items × NoneShows now asked seen × ((entry : Record) × IsAllowed now asked entry)
+
+-- the device has gone on by an answer that is allowed, and that shows what was seen unless none does (profile)
+pub record IsClosest (now : Running) (asked : Result Event Fault) (seen : Seen) (new : Running) (entry : Record)
+    : Type 0 where
+  pub answers : answered_by entry ≡ asked
+  pub leads : Leads now entry new
+  pub best : shows seen entry ≡ false → NoneShows now asked seen

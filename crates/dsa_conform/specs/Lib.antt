@@ -3,6 +3,7 @@ pub mod Allowed
 pub mod Quoted
 pub mod Lines
 pub mod Run
+pub mod AsSeen
 pub mod Ways
 pub mod ToldLines
 pub mod Forms

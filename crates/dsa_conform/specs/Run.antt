@@ -1,11 +1,11 @@
 -- What it is that a document conforms, and where it does not.
-use Rattle.std.specs.Prelude.{◌≡◌, ℕ, ◌+◌, true, List}
+use Rattle.std.specs.Prelude.{◌≡◌, ℕ, true, List}
 use Rattle.std.specs.Prelude.{[], ◌∷◌, ◌++◌, length, map, take, slice_get, option_map}
-use Rattle.std.specs.Prelude.{Option, Some, None, Result}
+use Rattle.std.specs.Prelude.{Option, Some, None}
 use Rattle.serde_json.specs.Data.{Data}
 use Rattle.dsa_base.specs.Lists.{In}
 use Rattle.dsa_regs.specs.declared.Caps.{Caps}
-use Rattle.dsa_book.specs.{declared.{answer.Ticket.{Ticket}, event.Event.{Event}}, Machine.{is_run}}
+use Rattle.dsa_book.specs.{declared.{answer.Ticket.{Ticket}}, Machine.{is_run}}
 use Rattle.dsa_device.specs.Running.{Running}
 use Rattle.dsa_scenario.specs.declared.{actions.Action.{Action}, run.Record.{Record}}
 use Rattle.dsa_scenario.specs.declared.faults.ScenarioFault.{ScenarioFault, TheVariants.{BadStep, Differs}}
@@ -103,13 +103,14 @@ IsVerdict caps capacity steps (Some (Differs i)) text = IsDiffering caps capacit
 IsVerdict caps capacity steps _ text = ⊥
 
 -- a document that a device can be made for, and what is told of its steps (profile)
-pub record IsRunJudged (bytes : List ℕ) (fault : Option ScenarioFault) (text : List ℕ) : Type 0 where
+pub record IsRunTold (is_told : Caps → ℕ → List Data → Option ScenarioFault → List ℕ → Type 0) (bytes : List ℕ)
+    (fault : Option ScenarioFault) (text : List ℕ) : Type 0 where
   pub caps : Caps
   pub capacity : ℕ
   pub steps : List Data
   pub head : HasHead bytes caps capacity steps
   pub opening : IsOpenable caps capacity
-  pub verdict : IsVerdict caps capacity steps fault text
+  pub verdict : is_told caps capacity steps fault text
 
 -- a document whose object i is the first that is no step object with what was seen (profile)
 pub record IsUnread (bytes : List ℕ) (i : ℕ) : Type 0 where
@@ -119,10 +120,15 @@ pub record IsUnread (bytes : List ℕ) (i : ℕ) : Type 0 where
   pub head : HasHead bytes caps capacity steps
   pub bad : IsUnreadAt steps i
 
--- the text, and the fault that is told after it, are what is made of a document (profile)
+-- the text, and the fault that is told after it, are what is made of a document, by what is told of its steps (profile)
+abbrev pub IsToldOf : (Caps → ℕ → List Data → Option ScenarioFault → List ℕ → Type 0) → List ℕ
+    → Option ScenarioFault → List ℕ → Type 0
+IsToldOf is_told bytes (Some (BadStep i)) text = IsUnread bytes i × (text ≡ [])
+IsToldOf is_told bytes fault text = IsRunTold is_told bytes fault text
+
+-- the same, where they are compared with what was seen (profile)
 abbrev pub IsConformance : List ℕ → Option ScenarioFault → List ℕ → Type 0
-IsConformance bytes (Some (BadStep i)) text = IsUnread bytes i × (text ≡ [])
-IsConformance bytes fault text = IsRunJudged bytes fault text
+IsConformance bytes fault text = IsToldOf IsVerdict bytes fault text
 
 -- any other fault is that of the plain run, of a document that has no object to be told so (profile)
 abbrev pub IsOtherFault : List ℕ → ScenarioFault → Type 0

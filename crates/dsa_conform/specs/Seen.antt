@@ -19,6 +19,10 @@ pub record Seen : Type 0 where
   pub answer : Option (List ℕ)
   pub zf : Option Bool
 
+-- nothing was
+abbrev pub nothing_seen : Seen
+nothing_seen = record { answer = None; zf = None }
+
 -- whether anything was
 abbrev pub is_seen : Seen → Bool
 is_seen seen = is_some seen.answer || is_some seen.zf

@@ -1,5 +1,5 @@
 -- The lines of what several devices allow.
-use Rattle.std.specs.Prelude.{◌≡◌, ◌<◌, ◌≤◌, ◌⊎◌, ℕ, List, [], ◌∷◌, ◌++◌, map, length, take, slice_get, Some, string_bytes}
+use Rattle.std.specs.Prelude.{◌≡◌, ◌<◌, ◌≤◌, ◌⊎◌, ℕ, List, map, length, take, slice_get, Some, string_bytes}
 use Rattle.dsa_base.specs.Lists.{In}
 use Rattle.dsa_scenario.specs.declared.run.Record.{Record}
 use Rattle.dsa_conform.specs.declared.told.{Told.{Told}, Line.{Line}}

@@ -21,7 +21,7 @@ use Rattle.dsa_scenario.specs.{Steps.{standing}, Worked.{record_ticket, stepped,
 use Rattle.dsa_scenario.specs.Worked.{group_of_a_run, records_of_a_run, submission_of_a_run, smallest_caps}
 use Rattle.json.specs.Print.{escape_byte}
 use Rattle.dsa_scenario.specs.Worked.{smallest_caps_text, document_text, digits_on_literals}
-use Rattle.dsa_conform.specs.{declared.{told.{Line.{Line}, Told.{Told}}, way.Way.{Way}}, Seen.{Seen}, Ways.{RunFrom}}
+use Rattle.dsa_conform.specs.{declared.{told.{Line.{Line}, Told.{Told}}, way.Way.{Way}}, Seen.{Seen, nothing_seen}, Ways.{RunFrom}}
 
 -- the text of an answer was seen
 abbrev pub answered : List ℕ → Seen
@@ -30,9 +30,6 @@ answered text = record { answer = Some text; zf = None }
 -- the zero flag was
 abbrev pub flagged : Bool → Seen
 flagged flag = record { answer = None; zf = Some flag }
-
-abbrev pub nothing_seen : Seen
-nothing_seen = record { answer = None; zf = None }
 
 -- both were
 abbrev pub answered_with : List ℕ → Bool → Seen

@@ -45,8 +45,8 @@ fn follow_only<S: EntryStore>(
     Ok(Followed::Differs(vec![in alloc; entry]?))
 }
 
-// The engine takes from the queue.
-fn take<S: EntryStore>(device: &mut Device<S>, engine: u16, queue: u16) -> Record
+/// The engine takes from the queue.
+pub fn take<S: EntryStore>(device: &mut Device<S>, engine: u16, queue: u16) -> Record
     requires room { (length device.old.history == device.old.capacity) ≡ false }
     requires qualifies { qualifies device.old.state.work engine queue ≡ true }
     ensures offered { offer device.old.state.work engine queue ≡ Some result }

@@ -3,10 +3,13 @@
 //!
 //! [`Conformance`] makes the text of a document. A device goes on where an answer that is allowed
 //! shows what was seen; at the first step where none does, the text tells the step, what was seen,
-//! and each answer that was allowed, with its reason.
+//! and each answer that was allowed, with its reason. [`AsSeen`] makes any other text of the run
+//! that was followed.
 #![tactic(auto)]
 
 mod alike;
+mod as_seen;
+mod closest;
 mod difference;
 mod following;
 pub mod laws;
@@ -14,6 +17,7 @@ mod observed;
 mod offering;
 mod quoted;
 mod rendering;
+mod retelling;
 pub mod rows;
 mod shown;
 mod step;
@@ -22,7 +26,9 @@ mod walk;
 mod way;
 mod ways;
 
+pub use as_seen::AsSeen;
+pub use closest::{Closest, follow_closest};
 pub use following::{Followed, follow};
-pub use observed::{Observed, parse_observed, parse_step};
+pub use observed::{Observed, first_unread, parse_observed, parse_step};
 pub use rendering::{Conformance, render_conformance};
 pub use shown::is_shown;

@@ -1,6 +1,6 @@
 //! Worked answers: which of them show what was seen, and what is told, by computation.
 
-ghost use Rattle.std.specs.Prelude.{List, ◌≡◌, ◌++◌, ◌∷◌, [], Some, None, Ok, Err, String, true, false, map, take, codes, replicate, string_bytes};
+ghost use Rattle.std.specs.Prelude.{ℕ, List, ◌≡◌, ◌++◌, ◌∷◌, [], Some, None, Ok, Err, String, true, false, map, take, codes, replicate, string_bytes};
 ghost use Rattle.std.specs.declared.vec.Vec.{Vec};
 ghost use Rattle.std.specs.declared.alloc.Global.{Global};
 ghost use Rattle.serde_json.specs.Data.{Data, null, boolean, string};
@@ -21,20 +21,21 @@ ghost use Rattle.dsa_desc.specs.declared.Outcome.TheVariants.{Success};
 ghost use Rattle.dsa_scenario.specs.declared.faults.ScenarioFault.TheVariants.{NotJson, BadStep, BadCaps, Differs};
 ghost use Rattle.dsa_scenario.specs.declared.run.Record.{Record, TheVariants.{Refused}};
 ghost use Rattle.dsa_scenario.specs.Worked.{accepted, whole, object_of, changed, command_step, poll_step, record_ticket, stepped, fill, smallest_caps, smallest_caps_text, no_caps_text, document_text, caps_of_a_run, group_of_a_run, submission_of_a_run, records_of_a_run};
-ghost use Rattle.dsa_scenario.specs.Steps.{standing};
+ghost use Rattle.dsa_scenario.specs.Steps.{standing, AreLinesOfSteps};
 ghost use Rattle.dsa_conform.specs.declared.following.Followed.TheVariants as followed;
 ghost use Rattle.dsa_conform.specs.declared.following.Followed.TheVariants.{Shown};
-ghost use Rattle.dsa_conform.specs.Seen.{seen_of, observation_of, seen_as, shows, zf_of, is_seen, AreShown};
+ghost use Rattle.dsa_conform.specs.Seen.{nothing_seen, seen_of, observation_of, seen_as, shows, zf_of, is_seen, AreShown};
 ghost use Rattle.dsa_conform.specs.Allowed.{IsAllowed, AreAllowed, IsAscending, NoneShows, AreSeenAlike, HasOneAnswer, IsNoDispatch, IsFollowed, offers, queue_taken};
 ghost use Rattle.std.specs.Str.{encode_utf8_all};
-ghost use Rattle.dsa_conform.specs.{Forms.{IsLineWith, IsReport}, Quoted.{seen_text}};
+ghost use Rattle.dsa_conform.specs.{Forms.{words_of_difference, IsLineWith, IsReport}, Quoted.{seen_text}};
 ghost use Rattle.dsa_conform.specs.Lines.{AreListed, allowed_line, conforms_text, seen_count, seen_line, difference_text};
 ghost use Rattle.dsa_conform.specs.Run.{IsShownRun, IsAllowedLine, IsReason, AreAllLines, IsDifference, AreRead, IsUnreadAt, IsConforming, IsDiffering, IsConformance, IsFollowedTo, IsOtherFault};
+ghost use Rattle.dsa_conform.specs.AsSeen.{count_shown, seen_before, IsFarthest, IsMadeAsSeen, IsTextAsSeen, IsToldAsSeen};
 ghost use Rattle.dsa_conform.specs.declared.{told.Told.{Told}, way.Way.{Way}};
 ghost use Rattle.dsa_book.specs.declared.answer.Ticket.{Ticket};
 ghost use Rattle.dsa_conform.specs.ToldLines.{AddsLines, AreLinesTold, HasText, IsLineOf, IsLinePlaced, IsPlaceOf, IsTextTold};
 ghost use Rattle.dsa_conform.specs.Ways.{queue_of_record, queues_taken, AreAdded, AreDevicesAlike, AreFollowed, AreGone, AreGoneOn, AreNamedEnds, AreOn, AreStepped, Covers, IsAdded, IsEngineAlike, IsFollowedOn, IsGone, IsGoneOn, IsOn, IsOneGone, IsReadTo, IsTold, IsWayBy, IsFork, IsNamedEnd, IsOneWay, IsQueueAlike, RunFrom};
-ghost use Rattle.dsa_conform.specs.Worked.{caps_of_two_queues, observed_of_an_error, records_of_one_error, records_of_two_errors, cleared, no_cells, told_allowing, way_at_first, records_of_two_queues, observed_of_two_queues, end_of_second, caps_of_three_queues, answered, flagged, answered_with, nothing_seen, by_enqcmd, by_movdir, observed_of_a_run, record_of_a_take, idle_words, from_first, from_second, from_third, after_some, after_all, after_a_take, line_of, smallest_device_at_first, document_of, poll_with, GoesAtFirst, polled_with, refused_then_polled, poll_record, nothing_line};
+ghost use Rattle.dsa_conform.specs.Worked.{caps_of_two_queues, observed_of_an_error, records_of_one_error, records_of_two_errors, cleared, no_cells, told_allowing, way_at_first, records_of_two_queues, observed_of_two_queues, end_of_second, caps_of_three_queues, answered, flagged, answered_with, by_enqcmd, by_movdir, observed_of_a_run, record_of_a_take, idle_words, from_first, from_second, from_third, after_some, after_all, after_a_take, line_of, smallest_device_at_first, document_of, poll_with, GoesAtFirst, polled_with, refused_then_polled, poll_record, nothing_line};
 
 /// What a step object says was seen.
 pub fn observations()
@@ -316,6 +317,8 @@ pub fn lines_of_forms()
 
 /// The lines of a document that conforms, of one that differs, and of one with a bad step.
 pub fn reports()
+    ensures words { words_of_difference 2
+        ≡ codes "step " ∷ codes "seen: " ∷ codes "allowed: " ∷ codes "allowed: " ∷ [] }
     ensures conforms { IsReport None (codes "conforms: 1 step, 0 answers seen\n") }
     ensures one_line { ¬ IsReport None
         (codes "conforms: 1 step, 0 answers seen\nallowed: nothing\n") }
@@ -435,6 +438,51 @@ pub fn documents()
         ++ poll_with (codes "\"zf\":1")))
         (Some (Differs 0))
         (codes "step 0: poll\nseen: active\nallowed: nothing: no command is active\n") }
+{}
+
+/// What was seen of the first steps, and how many these are.
+pub fn first_steps()
+    ensures none { seen_before 0 (polled_with (flagged true)) ≡ polled_with nothing_seen }
+    ensures first { seen_before 1 ((Refuse BadCommand, flagged true) ∷ polled_with (flagged true))
+        ≡ (Refuse BadCommand, flagged true) ∷ polled_with nothing_seen }
+    ensures more { seen_before 2 (polled_with (flagged true)) ≡ polled_with (flagged true) }
+    ensures all { count_shown 5 None ≡ 5 }
+    ensures differs { count_shown 5 (Some (Differs 2)) ≡ 2 }
+    ensures other { count_shown 5 (Some BadCaps) ≡ 5 }
+{}
+
+/// A run shows what was seen of as many steps as any does: of all, or of those before one of which
+/// no run shows it.
+pub fn farthest_steps()
+    ensures all { IsFarthest smallest_caps 9 (polled_with (answered (codes "nothing"))) 1 }
+    ensures differs { IsFarthest smallest_caps 9 (polled_with (answered (codes "active"))) 0 }
+    ensures too_early { ¬ IsFarthest smallest_caps 9 (polled_with (answered (codes "nothing"))) 0 }
+    ensures behind { ¬ IsFarthest smallest_caps 9 (polled_with (answered (codes "nothing"))) 2 }
+{}
+
+/// What is made of such a run, here its lines.
+#[tactic(auto, unfolding(serde_json::proofs::OnLiterals::serde_json_on_literals, dsa_scenario::specs::Worked::digits_on_literals))]
+pub fn made_as_seen()
+    ensures line { IsTextAsSeen AreLinesOfSteps smallest_caps 9
+        (object_of ((codes "answer", string (codes "nothing")) ∷ poll_step) ∷ [])
+        (codes "nothing\n") }
+    ensures differs { IsTextAsSeen AreLinesOfSteps smallest_caps 9
+        (object_of ((codes "answer", string (codes "active")) ∷ poll_step) ∷ [])
+        (codes "nothing\n") }
+    ensures unread { ¬ IsTextAsSeen AreLinesOfSteps smallest_caps 9 (null ∷ []) [] }
+    ensures not_shown { (text : List ℕ)
+        → (h : IsTextAsSeen AreLinesOfSteps smallest_caps 9
+        (changed (codes "word") (whole 0)
+        ((codes "answer", string (codes "nothing")) ∷ command_step)
+        ∷ [])
+        text)
+        → h.count ≡ 0 }
+    ensures other_text { ¬ IsTextAsSeen (λ made last told. ⊥) smallest_caps 9 [] [] }
+    ensures other_fault { ¬ IsToldAsSeen AreLinesOfSteps smallest_caps 9 [] (Some BadCaps) [] }
+    ensures document { IsMadeAsSeen AreLinesOfSteps
+        (document_of (poll_with (codes "\"answer\":\"nothing\""))) None (codes "nothing\n") }
+    ensures bad_step { IsMadeAsSeen AreLinesOfSteps
+        (document_of (poll_with (codes "\"zf\":1"))) (Some (BadStep 0)) [] }
 {}
 
 /// The other faults are told where no object is: it comes before those of the capabilities, and is

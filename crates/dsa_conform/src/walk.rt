@@ -28,6 +28,8 @@ pub struct Verdict {
     pub text: String,
     /// The step that differs, if one does.
     pub fault: Option<ScenarioFault>,
+    /// A device that has answered all of them as was seen, where that is what was asked for.
+    pub way: Option<Way>,
 }
 
 // The line of a document that conforms.
@@ -82,6 +84,7 @@ fn differs_by(
     Ok(Verdict {
         text,
         fault: Some(ScenarioFault::Differs(number as u64)),
+        way: None,
     })
 }
 
@@ -113,13 +116,21 @@ fn walk_forked(
         let differs = walk_ways(alloc, head, i, &mut ways, action, &seen)?;
         if let Some(text) = differs {
             let fault = Some(ScenarioFault::Differs(i as u64));
-            return Ok(Verdict { text, fault });
+            return Ok(Verdict {
+                text,
+                fault,
+                way: None,
+            });
         }
         let more = count_more(answers, &seen);
         answers = more;
     }
     let text = conforms_text(alloc, head.steps.len(), answers)?;
-    Ok(Verdict { text, fault: None })
+    Ok(Verdict {
+        text,
+        fault: None,
+        way: ways.pop(),
+    })
 }
 
 /// What is told of a run of the step objects on a new device.
@@ -148,5 +159,9 @@ pub fn walk_steps(alloc: Global, head: &Head<'_>) -> Result<Verdict, AllocError>
         answers = more;
     }
     let text = conforms_text(alloc, head.steps.len(), answers)?;
-    Ok(Verdict { text, fault: None })
+    Ok(Verdict {
+        text,
+        fault: None,
+        way: Some(way),
+    })
 }

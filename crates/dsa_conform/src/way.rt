@@ -8,6 +8,7 @@ ghost use Rattle.dsa_book.specs.Work.{qualifies};
 ghost use Rattle.dsa_conform.specs.Allowed.{offer};
 ghost use Rattle.dsa_conform.specs.Seen.{Seen, seen_as};
 ghost use Rattle.dsa_conform.specs.Run.{AreAllRead, IsFollowedTo};
+ghost use Rattle.dsa_conform.specs.AsSeen.{IsStepMade};
 ghost use Rattle.dsa_conform.specs.Ways.{IsWayBy, queue_of_reply, queue_of_record, queues_taken};
 ghost use Rattle.dsa_regs.specs.declared.Caps.{Caps};
 ghost use Rattle.dsa_book.specs.declared.event.Event.TheVariants as event;
@@ -121,18 +122,20 @@ fn ask_for<S: EntryStore>(
     }
 }
 
-// One step more, by an entry of this queue where one is taken.
-//
-// The queues are those of a device that has answered as was seen, so this one does too. If it did
-// not, that is told as memory that is refused.
-fn step_again(
+/// One step more, by an entry of this queue where one is taken.
+///
+/// The queues are those of a device that has answered as was seen, so this one does too. If it did
+/// not, that is told as memory that is refused.
+pub fn step_again(
     alloc: Global,
     way: &mut Way,
     queue: Option<u16>,
     action: Action,
     seen: &Observed<'_>,
 ) -> Result<Record, AllocError>
-    ensures { IfOk result (λ entry. (caps : Caps)
+    ensures made { IfOk result (λ entry. IsStepMade way.old.device way.old.tickets.items action
+        (seen_as seen.now) entry way.new.device way.new.tickets.items) }
+    ensures follows { IfOk result (λ entry. (caps : Caps)
         → (capacity : ℕ) → (done : List (Action × Seen)) → (number : ℕ)
         → IsFollowedTo caps capacity done number way.old.device way.old.tickets.items
         → IsFollowedTo caps capacity (done ++ (action, seen_as seen.now) ∷ []) (number + 1)
@@ -147,8 +150,8 @@ fn step_again(
     Ok(entry)
 }
 
-// One more entry was taken, where the answer tells so.
-fn count_taken(taken: usize, entry: &Record) -> usize
+/// One more entry was taken, where the answer tells so.
+pub fn count_taken(taken: usize, entry: &Record) -> usize
     ensures { result ≡ min (taken + cond (is_some (queue_of_record entry.now)) 1 0) usize.MAX }
 {
     match queue_of_record(entry) {

@@ -1,14 +1,12 @@
 -- Rows of a drawing, an item at a time.
-use Rattle.std.proofs.Common.{◌≡◌, ◌<◌, ◌≤◌, ◌+◌, ◌-◌, ℕ, List, [], ◌∷◌, ◌++◌, length, drop, get_or, sym, ap, arith}
-use Rattle.std.proofs.Common.{◌∙◌, refl, append_assoc, append-nil}
-use Rattle.std.proofs.lemmas.List.{drop_more, drop_all}
-use Rattle.std.specs.List.{range_with_len}
+use Rattle.std.proofs.Common.{◌≡◌, ◌<◌, ◌≤◌, ◌+◌, ℕ, List, [], ◌∷◌, ◌++◌, length, drop, get_or}
+use Rattle.std.proofs.Common.{append_assoc, append-nil}
+use Rattle.std.proofs.lemmas.List.{drop_all}
 use Rattle.dsa_book.specs.declared.fate.FateRow.{FateRow}
-use Rattle.dsa_draw.specs.declared.{bars.Bar.{Bar}, engines.Lanes.{Lanes}, moment.Moment.{Moment}}
+use Rattle.dsa_draw.specs.declared.{moment.Moment.{Moment}}
 use Rattle.dsa_draw.specs.Bands.{next_step}
 use Rattle.dsa_draw.specs.Rows.{marks_of_step_text, marks_above_text}
-use Rattle.dsa_draw.specs.Engines.{has_steps, engine_mark_text, engine_marks_text, bars_text, batches_text}
-use Rattle.dsa_draw.specs.Engines.{engine_part_text, engine_end, engines_text, engines_end}
+use Rattle.dsa_draw.specs.Engines.{engine_mark_text, engine_marks_text}
 use Rattle.dsa_draw.proofs.Turns.{left}
 
 -- one moment more

@@ -4,8 +4,8 @@ use Rattle.std.proofs.Common.{◌∙◌, refl, append_assoc, append-nil}
 use Rattle.std.proofs.lemmas.List.{drop_more, drop_all, length-map}
 use Rattle.std.proofs.Math.ListN.{get_or-map}
 use Rattle.std.specs.Prelude.{◌==◌}
-use Rattle.dsa_draw.specs.declared.{bands.Band.{Band}, moment.Moment.{Moment}}
-use Rattle.dsa_draw.specs.Bands.{level_in, highest, highest_of, next_step, turn_text, turns}
+use Rattle.dsa_draw.specs.declared.{bands.Band.{Band}, moment.{Level.{Level}, Moment.{Moment}}}
+use Rattle.dsa_draw.specs.Bands.{level_in, raised, raised_by, next_step, turn_text, turns, reach_text}
 use Rattle.dsa_draw.specs.Bands.{band_part_text, next_top, bands_text, bands_end}
 use Rattle.dsa_draw.specs.Columns.{fifth_text, column_text, columns_text}
 
@@ -20,24 +20,24 @@ left_of V ms i m inside is = drop_more (map V ms) i (V m) (rw (length-map ms V) 
     ∙ ap (λ x. x ∷ drop (i + 1) (map V ms)) (get_or-map V ms i m ∙ ap V (sym is))
 
 -- one moment more
-pub higher : (band : Band) (ms : List Moment) (i : ℕ) (m : Moment) (most n : ℕ) → i < length ms → m ≡ get_or ms i m
-    → highest_of band most (drop i ms) ≡ n
-    → highest_of band (highest most (level_in band m)) (drop (i + 1) ms) ≡ n
-higher band ms i m most n inside is h =
-    let h' : highest_of band most (m ∷ drop (i + 1) ms) ≡ n = rw (left ms i m inside is) at h in
+pub higher : (band : Band) (ms : List Moment) (i : ℕ) (m : Moment) (most peaks : Level) → i < length ms
+    → m ≡ get_or ms i m → raised_by band most (drop i ms) ≡ peaks
+    → raised_by band (raised most (level_in band m)) (drop (i + 1) ms) ≡ peaks
+higher band ms i m most peaks inside is h =
+    let h' : raised_by band most (m ∷ drop (i + 1) ms) ≡ peaks = rw (left ms i m inside is) at h in
     h'
 
 -- no moment more
-pub highest_at_end : (band : Band) (ms : List Moment) (i : ℕ) (most n : ℕ) → length ms ≤ i
-    → highest_of band most (drop i ms) ≡ n → most ≡ n
-highest_at_end band ms i most n past h =
-    let h' : highest_of band most [] ≡ n = rw (drop_all i ms past) at h in
+pub highest_at_end : (band : Band) (ms : List Moment) (i : ℕ) (most peaks : Level) → length ms ≤ i
+    → raised_by band most (drop i ms) ≡ peaks → most ≡ peaks
+highest_at_end band ms i most peaks past h =
+    let h' : raised_by band most [] ≡ peaks = rw (drop_all i ms past) at h in
     h'
 
 -- one level more
 pub turned : (V : Moment → ℕ) (ms : List Moment) (i : ℕ) (m : Moment) (bottom most step before : ℕ)
     (text longer whole : List ℕ) → i < length ms → m ≡ get_or ms i m
-    → longer ≡ text ++ cond (V m == before) [] (turn_text bottom most step (V m))
+    → longer ≡ text ++ cond (V m == before) [] (turn_text bottom most step before (V m))
     → text ++ turns bottom most step before (drop i (map V ms)) ≡ whole
     → longer ++ turns bottom most (next_step step) (V m) (drop (i + 1) (map V ms)) ≡ whole
 turned V ms i m bottom most step before text longer whole inside is added h =
@@ -47,7 +47,7 @@ turned V ms i m bottom most step before text longer whole inside is added h =
 
 -- no level more
 pub turned_at_end : (V : Moment → ℕ) (ms : List Moment) (i bottom most step before : ℕ) (text longer whole : List ℕ)
-    → length ms ≤ i → longer ≡ text ++ turns 0 0 step 0 []
+    → length ms ≤ i → longer ≡ text ++ reach_text bottom step before
     → text ++ turns bottom most step before (drop i (map V ms)) ≡ whole → longer ≡ whole
 turned_at_end V ms i bottom most step before text longer whole past added h =
     let h' : text ++ turns bottom most step before [] ≡ whole =

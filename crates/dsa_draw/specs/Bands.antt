@@ -27,14 +27,26 @@ value_of Filled level = level.filled
 value_of Mark level = level.mark
 value_of Limit level = level.limit
 
--- the highest of a level and of these
-abbrev pub highest : ℕ → Level → ℕ
-highest most level = max (max (max most level.limit) level.mark) level.filled
+-- each of these at its highest, in this level and in that
+abbrev pub raised : Level → Level → Level
+raised most level = record {
+  filled = max most.filled level.filled;
+  mark = max most.mark level.mark;
+  limit = max most.limit level.limit;
+}
 
--- the highest of a level and of all of a band
-abbrev pub highest_of : Band → ℕ → List Moment → ℕ
-highest_of band most [] = most
-highest_of band most (moment ∷ moments) = highest_of band (highest most (level_in band moment)) moments
+-- and in all of a band
+abbrev pub raised_by : Band → Level → List Moment → Level
+raised_by band most [] = most
+raised_by band most (moment ∷ moments) = raised_by band (raised most (level_in band moment)) moments
+
+-- the peaks of a band in a run; all is 0 where nothing was configured
+abbrev pub peaks_of : Band → List Moment → Level
+peaks_of band moments = raised_by band (record { filled = 0; mark = 0; limit = 0 }) moments
+
+-- the highest of them, where the band is full
+abbrev pub highest : Level → ℕ
+highest peaks = max (max peaks.limit peaks.mark) peaks.filled
 
 -- ---- lines
 
@@ -42,16 +54,27 @@ highest_of band most (moment ∷ moments) = highest_of band (highest most (level
 abbrev pub next_step : ℕ → ℕ
 next_step step = min (step + 1) (2 ^ 32 - 1)
 
+-- how high a level stands in a band that is full at `most`; one that is not 0 is at least 2 high
+abbrev pub level_height : ℕ → ℕ → ℕ
+level_height most level = cond (level == 0) 0 (max (48 * min level most / max most 1) 2)
+
+-- on to the column of a step; where the level before is 0 nothing is drawn up to there
+abbrev pub reach_text : ℕ → ℕ → ℕ → List ℕ
+reach_text bottom step before =
+    cond (before == 0) (codes "M" ++ decimal (112 + 14 * step) ++ codes " " ++ decimal bottom)
+    (codes "H" ++ decimal (112 + 14 * step))
+
 -- to the column of a step, and there to the height of a level
-abbrev pub turn_text : ℕ → ℕ → ℕ → ℕ → List ℕ
-turn_text bottom most step level =
-    codes "H" ++ decimal (112 + 14 * step) ++ codes "V" ++ decimal (bottom - 48 * min level most / max most 1)
+abbrev pub turn_text : ℕ → ℕ → ℕ → ℕ → ℕ → List ℕ
+turn_text bottom most step before level =
+    reach_text bottom step before ++ codes "V" ++ decimal (bottom - level_height most level)
 
 -- a line turns where its level is another than before, and goes on to the end of the last column
 abbrev pub turns : ℕ → ℕ → ℕ → ℕ → List ℕ → List ℕ
-turns bottom most step before [] = codes "H" ++ decimal (112 + 14 * step)
+turns bottom most step before [] = reach_text bottom step before
 turns bottom most step before (level ∷ levels) =
-    cond (level == before) [] (turn_text bottom most step level) ++ turns bottom most (next_step step) level levels
+    cond (level == before) [] (turn_text bottom most step before level)
+    ++ turns bottom most (next_step step) level levels
 
 -- the levels of a line, one for each step
 abbrev pub levels_of : Band → Line → List Moment → List ℕ
@@ -113,19 +136,24 @@ band_range_text most top =
 abbrev pub lower_end : ℕ → ℕ → ℕ
 lower_end top high = min (top + high) (2 ^ 32 - 1)
 
--- a band that begins at `top` and is full at `most`: its frame, its lines and its names
-unfoldable pub band_text : ℕ → ℕ → ℕ → Band → List Moment → List ℕ
-band_text steps top most band moments =
-    frame_text steps top ++ lines_text (lower_end top 48) most band moments ++ name_text band top
-    ++ band_range_text most top
+-- how much of it was filled at most
+unfoldable pub peak_text : ℕ → ℕ → List ℕ
+peak_text peak top =
+    codes "<text x=\"4\" y=\"" ++ decimal (top + 37) ++ codes "\">peak " ++ decimal peak ++ codes "</text>\n"
+
+-- a band that begins at `top` and has these peaks: its frame, its lines, its names and its numbers
+unfoldable pub band_text : ℕ → ℕ → Level → Band → List Moment → List ℕ
+band_text steps top peaks band moments =
+    frame_text steps top ++ lines_text (lower_end top 48) (highest peaks) band moments ++ name_text band top
+    ++ band_range_text (highest peaks) top ++ peak_text peaks.filled top
 
 -- of a band of which nothing was configured there is no text, and the next one stands in its place
 abbrev pub band_part_text : ℕ → ℕ → Band → List Moment → List ℕ
 band_part_text steps top band moments =
-    cond (highest_of band 0 moments == 0) [] (band_text steps top (highest_of band 0 moments) band moments)
+    cond (highest (peaks_of band moments) == 0) [] (band_text steps top (peaks_of band moments) band moments)
 
 abbrev pub next_top : ℕ → Band → List Moment → ℕ
-next_top top band moments = cond (highest_of band 0 moments == 0) top (lower_end top 56)
+next_top top band moments = cond (highest (peaks_of band moments) == 0) top (lower_end top 56)
 
 -- bands below one another
 abbrev pub bands_text : ℕ → ℕ → List Band → List Moment → List ℕ

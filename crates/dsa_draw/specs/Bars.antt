@@ -6,7 +6,7 @@ use Rattle.dsa_book.specs.declared.answer.{SubmitAnswer.{SubmitAnswer, TheVarian
 use Rattle.dsa_book.specs.declared.answer.{DispatchAnswer.{DispatchAnswer, TheVariants.{Taken}}}
 use Rattle.dsa_book.specs.declared.answer.{FetchAnswer.{FetchAnswer, TheVariants.{Fetched}}}
 use Rattle.dsa_book.specs.declared.answer.{StartAnswer.{StartAnswer, TheVariants.{Started}}}
-use Rattle.dsa_book.specs.declared.event.{Actor.{Actor, TheVariants.{Engine}}, Step.{Step}}
+use Rattle.dsa_book.specs.declared.event.{Actor.{Actor, TheVariants.{Engine}}}
 use Rattle.dsa_book.specs.declared.fate.FateRow.{FateRow}
 use Rattle.dsa_book.specs.Totals.{actor_of}
 use Rattle.dsa_scenario.specs.declared.run.Record.{Record, TheVariants.{Stepped, Refused}}
@@ -72,31 +72,27 @@ abbrev pub is_batch_named : ℕ → Option ℕ → Bool
 is_batch_named name None = false
 is_batch_named name (Some batch) = batch == name
 
--- what an engine took from a queue runs at once
-abbrev pub taken_bar : ℕ → ℕ → ℕ → Option ℕ → Bar
-taken_bar name engine step batch = record {
+-- what comes to an engine with this step
+abbrev pub begun_bar : ℕ → ℕ → ℕ → Bar
+begun_bar name engine step = record {
   name = name;
   engine = engine;
   parent = None;
-  is_batch = is_batch_named name batch;
-  begin = step;
-  started = Some step;
-  end = None;
-  lane = 0;
-}
-
--- what it fetched is a member of its batch, and is to be started
-abbrev pub fetched_bar : ℕ → ℕ → ℕ → Option ℕ → Bar
-fetched_bar name engine step batch = record {
-  name = name;
-  engine = engine;
-  parent = batch;
   is_batch = false;
   begin = step;
   started = None;
   end = None;
   lane = 0;
 }
+
+-- what it took from a queue runs at once
+abbrev pub taken_bar : ℕ → ℕ → ℕ → Option ℕ → Bar
+taken_bar name engine step batch =
+    record (begun_bar name engine step) { is_batch = is_batch_named name batch; started = Some step }
+
+-- what it fetched is a member of its batch, and is to be started
+abbrev pub fetched_bar : ℕ → ℕ → ℕ → Option ℕ → Bar
+fetched_bar name engine step batch = record (begun_bar name engine step) { parent = batch }
 
 -- the engine whose step it was; 0 where it was of none
 abbrev pub engine_of_actor : Actor → ℕ

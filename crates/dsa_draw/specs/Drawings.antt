@@ -4,7 +4,7 @@ use Rattle.std.specs.List.{range_with_len}
 use Rattle.dsa_device.specs.Running.{Running}
 use Rattle.dsa_scenario.specs.Steps.{Visit, IsTextOfDocument}
 use Rattle.dsa_draw.specs.{Bands.{bands_text, bands_end, bands_of}, Columns.{columns_text}, Moments.{IsMomentOf}}
-use Rattle.dsa_draw.specs.{Pages.{head_text, foot_text}, Rows.{rows_above_text}, Bars.{bars_of}}
+use Rattle.dsa_draw.specs.{Pages.{head_text, foot_text, legend_text}, Rows.{rows_above_text}, Bars.{bars_of}}
 use Rattle.dsa_draw.specs.Engines.{engines_text, engines_end}
 use Rattle.dsa_draw.specs.declared.{moment.Moment.{Moment}, run.Story.{Story}}
 
@@ -35,7 +35,7 @@ story_bands_text story =
 abbrev pub story_bands_end : Story → ℕ
 story_bands_end story = bands_end 152 (bands_of story.caps) story.moments.items
 
--- the engines below them, and where they end, which is the height of the page
+-- the engines below them, and where they end, which is the height of the rows
 abbrev pub story_engines_text : Story → List ℕ
 story_engines_text story =
     engines_text (step_count story.moments.items) (story_bands_end story) (range_with_len 0 story.caps.engines)
@@ -46,13 +46,13 @@ story_height story =
     engines_end (step_count story.moments.items) (story_bands_end story) (range_with_len 0 story.caps.engines)
     story.moments.items (bars_of story.moments.items story.fates.items)
 
--- a column for each moment, and over these the rows
+-- a column for each moment, over these the rows, and a legend below
 abbrev pub drawing_text : Story → List ℕ
 drawing_text story =
     head_text (step_count story.moments.items) (story_height story)
     ++ columns_text (story_height story) 0 story.moments.items
     ++ rows_above_text (step_count story.moments.items) story.fates.items story.moments.items
-    ++ story_bands_text story ++ story_engines_text story ++ foot_text
+    ++ story_bands_text story ++ story_engines_text story ++ legend_text (story_height story) ++ foot_text
 
 -- the text is the drawing of the story
 abbrev pub IsTextOf : Story → List ℕ → Type 0

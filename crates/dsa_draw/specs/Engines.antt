@@ -1,12 +1,13 @@
 -- The rows of the engines, as text: a mark for each step of an engine, and a bar for each entry that it had.
 use Rattle.std.specs.Prelude.{ℕ, ◌+◌, ◌-◌, ◌*◌, ◌^◌, ◌==◌, ◌&&◌, Bool, true, false, cond, nat_lt, min, List, [], ◌∷◌}
-use Rattle.std.specs.Prelude.{◌++◌, codes, decimal, Option, Some, None, unwrap_or}
+use Rattle.std.specs.Prelude.{◌++◌, codes, decimal, Option, Some, None, is_some, option_and_then, unwrap_or}
 use Rattle.dsa_book.specs.declared.event.Actor.TheVariants.{Engine}
 use Rattle.dsa_book.specs.declared.fate.{Fate.{Fate, TheVariants.{Completed, Aborted, Abandoned}}}
 use Rattle.dsa_book.specs.Totals.{actor_of, same_actor}
 use Rattle.dsa_scenario.specs.declared.run.Record.{Record, TheVariants.{Stepped, Refused}}
 use Rattle.dsa_scenario.specs.Lines.{two_digits}
-use Rattle.dsa_draw.specs.declared.{bars.{Bar.{Bar}, End.{End}}, engines.Lanes.{Lanes}, moment.Moment.{Moment}}
+use Rattle.dsa_draw.specs.declared.engines.{Lanes.{Lanes}, Sign.{Sign, TheVariants.{Cross, Slash}}}
+use Rattle.dsa_draw.specs.declared.{bars.{Bar.{Bar}, End.{End}}, moment.Moment.{Moment}}
 use Rattle.dsa_draw.specs.{Marks.{mark_of}, Bands.{next_step, lower_end, numbered_text}, Pages.{mark_text, rect_text, rule_text, small_number_text}}
 use Rattle.dsa_draw.specs.Bars.{end_step, in_lanes, all_lanes, lane_count}
 
@@ -40,6 +41,15 @@ class_of_fate _ = codes "lost"
 abbrev pub class_of_end : Option End → List ℕ
 class_of_end None = codes "held"
 class_of_end (Some end) = class_of_fate end.fate
+
+-- beside the colour: a cross where the entry was not successful, a slash where it was aborted or abandoned
+abbrev pub sign_of_fate : Fate → Option Sign
+sign_of_fate (Completed status) = cond (status == 1) None (Some Cross)
+sign_of_fate _ = Some Slash
+
+-- while it is held there is none
+abbrev pub sign_of : Option End → Option Sign
+sign_of end = option_and_then (λ end. sign_of_fate end.fate) end
 
 abbrev pub fate_phrase : Fate → List ℕ
 fate_phrase (Completed status) = codes "completed " ++ two_digits status
@@ -81,10 +91,29 @@ box_part_text class begin end y = cond (nat_lt begin end) (box_text class begin 
 abbrev pub name_room : ℕ → ℕ
 name_room name = cond (nat_lt name 100) 14 (cond (nat_lt name 10_000) 28 56)
 
+-- a sign takes as much as one digit more
+abbrev pub bar_room : Bar → ℕ
+bar_room bar = name_room (cond (is_some (sign_of bar.end)) (10 * bar.name) bar.name)
+
 -- the name of the entry, where the bar has room for it
 abbrev pub bar_name_text : Bar → ℕ → ℕ → List ℕ
 bar_name_text bar end base =
-    cond (nat_lt (14 * (end - bar.begin)) (name_room bar.name)) [] (small_number_text bar.begin base bar.name)
+    cond (nat_lt (14 * (end - bar.begin)) (bar_room bar)) [] (small_number_text bar.begin base bar.name)
+
+-- the strokes of a sign, 4 wide and 4 high
+abbrev pub strokes_text : Sign → List ℕ
+strokes_text Cross = codes "l4 4m0-4l-4 4"
+strokes_text Slash = codes "m0 4l4-4"
+
+-- a sign before the column of the step of an end
+unfoldable pub sign_text : Sign → ℕ → ℕ → List ℕ
+sign_text sign end y =
+    codes "<path class=\"sign\" d=\"M" ++ decimal (106 + 14 * end) ++ codes " " ++ decimal y ++ strokes_text sign
+    ++ codes "\"/>"
+
+abbrev pub end_sign_text : Option Sign → ℕ → ℕ → List ℕ
+end_sign_text None end y = []
+end_sign_text (Some sign) end y = sign_text sign end y
 
 -- members are in lanes below those of what the engine took from queues
 abbrev pub lane_by : Lanes → ℕ → Option ℕ → ℕ
@@ -94,11 +123,11 @@ lane_by lanes lane (Some batch) = lower_end lanes.taken lane
 abbrev pub bar_top : Lanes → Bar → ℕ
 bar_top lanes bar = lanes.top + 13 * lane_by lanes bar.lane bar.parent
 
--- a box until it starts, a box until it ends, and its name
+-- a box until it starts, a box until it ends, its name, and a sign at its end
 abbrev pub boxes_text : Bar → ℕ → ℕ → ℕ → List ℕ
 boxes_text bar runs end y =
     box_part_text (codes "waits") bar.begin runs y ++ box_part_text (class_of_end bar.end) runs end y
-    ++ bar_name_text bar end (y + 9)
+    ++ bar_name_text bar end (y + 9) ++ end_sign_text (sign_of bar.end) end (y + 4)
 
 abbrev pub bar_text : Lanes → Bar → List ℕ
 bar_text lanes bar =

@@ -1,7 +1,7 @@
 -- What is read of a device after a step.
-use Rattle.std.specs.Prelude.{◌≡◌, ℕ, length, map, Option, None, option_map, unwrap_or}
+use Rattle.std.specs.Prelude.{◌≡◌, ℕ, cond, length, map, Option, None, option_map, unwrap_or}
 use Rattle.std.specs.List.{range_with_len}
-use Rattle.dsa_regs.specs.{declared.Caps.{Caps}, Config.{queue_at, group_at}}
+use Rattle.dsa_regs.specs.{declared.{Caps.{Caps}, QueueConfig.{QueueConfig}}, Config.{queue_at, group_at}}
 use Rattle.dsa_book.specs.declared.event.{Actor.{Actor, TheVariants.{Engine}}}
 use Rattle.dsa_book.specs.{State.{occupancy}, Work.{used, note_at}, Totals.{actor_of}}
 use Rattle.dsa_device.specs.Running.{Running}
@@ -13,11 +13,15 @@ use Rattle.dsa_draw.specs.declared.moment.BandKind.{BandKind, TheVariants.{Queue
 abbrev pub level_with : Option ℕ → ℕ → ℕ → Level
 level_with filled mark limit = record { filled = unwrap_or filled 0; mark = mark; limit = limit }
 
+-- the threshold of a queue; a dedicated one ignores it, and has no mark
+abbrev pub queue_mark : QueueConfig → ℕ
+queue_mark config = cond config.dedicated 0 config.threshold
+
 -- the occupancy of a queue, its threshold and its size
 abbrev pub queue_level_of : Running → ℕ → Level
 queue_level_of d queue = record {
   filled = occupancy d.state.work.content queue;
-  mark = (queue_at d.state.work.setup.configs queue).threshold;
+  mark = queue_mark (queue_at d.state.work.setup.configs queue);
   limit = (queue_at d.state.work.setup.configs queue).size;
 }
 

@@ -1,6 +1,8 @@
 -- Pieces of a page, as text: its head and its foot, names, lines and marks.
 use Rattle.std.specs.Prelude.{ℕ, ◌+◌, ◌-◌, ◌*◌, List, ◌++◌, codes, decimal}
-use Rattle.dsa_draw.specs.declared.{page.TheConstants.{STYLE}, marks.Mark.{Mark, TheVariants.{Done, Wait, Failed}}}
+use Rattle.dsa_event_text.specs.Text.{count_text}
+use Rattle.dsa_draw.specs.Bands.{lower_end}
+use Rattle.dsa_draw.specs.declared.{page.TheConstants.{STYLE, DESCRIPTION, LEGEND}, marks.Mark.{Mark, TheVariants.{Done, Wait, Failed}}}
 
 -- ---- head and foot
 
@@ -12,10 +14,21 @@ unfoldable pub page_size_text : ℕ → ℕ → List ℕ
 page_size_text width height = codes " width=\"" ++ decimal width ++ codes "\" height=\"" ++ decimal height ++ codes "\""
 
 unfoldable pub view_text : ℕ → ℕ → List ℕ
-view_text width height = codes " viewBox=\"0 0 " ++ decimal width ++ codes " " ++ decimal height ++ codes "\">\n"
+view_text width height = codes " viewBox=\"0 -28 " ++ decimal width ++ codes " " ++ decimal height
+    ++ codes "\" role=\"img\">\n"
 
 unfoldable pub svg_text : List ℕ
 svg_text = codes "<svg xmlns=\"http://www.w3.org/2000/svg\""
+
+-- what the page is of, in words: a title, and what the rows are
+unfoldable pub description_text : List ℕ
+description_text = DESCRIPTION.now
+
+unfoldable pub run_title_text : ℕ → List ℕ
+run_title_text steps = count_text (codes "<title>Run of ") steps (codes "step") (codes "steps")
+
+abbrev pub told_text : ℕ → List ℕ
+told_text steps = run_title_text steps ++ codes "</title>\n" ++ description_text
 
 -- the colours, for light and for dark
 unfoldable pub style_text : List ℕ
@@ -23,7 +36,8 @@ style_text = STYLE.now
 
 unfoldable pub sheet_text : ℕ → ℕ → List ℕ
 sheet_text width height =
-    codes "<rect class=\"sheet\" width=\"" ++ decimal width ++ codes "\" height=\"" ++ decimal height ++ codes "\"/>\n"
+    codes "<rect class=\"sheet\" y=\"-28\" width=\"" ++ decimal width ++ codes "\" height=\"" ++ decimal height
+    ++ codes "\"/>\n"
 
 -- a rectangle from the left of the column of a step on, whose tag is left open
 unfoldable pub rect_text : List ℕ → ℕ → ℕ → ℕ → ℕ → List ℕ
@@ -37,11 +51,23 @@ small_number_text step base number =
     codes "<text class=\"label\" x=\"" ++ decimal (112 + 14 * step + 2) ++ codes "\" y=\"" ++ decimal base
     ++ codes "\">" ++ decimal number ++ codes "</text>"
 
--- the head of a page of so many steps, so high
+-- the height of a page whose rows are so high: 28 above them for long commands, and a legend of 168 below
+abbrev pub page_height : ℕ → ℕ
+page_height rows = lower_end rows 196
+
+-- the head of a page of so many steps, whose rows are so high
 abbrev pub head_text : ℕ → ℕ → List ℕ
-head_text steps height =
-    svg_text ++ page_size_text (page_width steps) height ++ view_text (page_width steps) height ++ style_text
-    ++ sheet_text (page_width steps) height
+head_text steps rows =
+    svg_text ++ page_size_text (page_width steps) (page_height rows) ++ view_text (page_width steps) (page_height rows)
+    ++ told_text steps ++ style_text ++ sheet_text (page_width steps) (page_height rows)
+
+-- the shapes of the legend with their meanings, and the legend below rows that are so high
+unfoldable pub shapes_text : List ℕ
+shapes_text = LEGEND.now
+
+unfoldable pub legend_text : ℕ → List ℕ
+legend_text rows =
+    codes "<g transform=\"translate(0 " ++ decimal rows ++ codes ")\">\n" ++ shapes_text ++ codes "</g>\n"
 
 abbrev pub foot_text : List ℕ
 foot_text = codes "</svg>\n"

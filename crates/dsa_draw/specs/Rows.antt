@@ -1,4 +1,4 @@
--- The rows above the bands, as text: names of commands, marks of those who asked, and what ended.
+-- The rows above the bands, as text: commands, marks of those who asked, and what ended.
 use Rattle.std.specs.Prelude.{ℕ, ◌+◌, ◌-◌, ◌*◌, ◌==◌, cond, nat_lt, min, List, [], ◌∷◌, ◌++◌, length, codes, decimal}
 use Rattle.std.specs.Prelude.{flat_map, Option, Some, None, slice_get, slice_range}
 use Rattle.dsa_regs.specs.declared.Command.{Command}
@@ -6,19 +6,22 @@ use Rattle.dsa_book.specs.declared.event.Event.{Event, TheVariants.{Issue}}
 use Rattle.dsa_book.specs.declared.event.Actor.{Actor, TheVariants.{Client, Engine, Admin}}
 use Rattle.dsa_book.specs.declared.fate.{Fate.{Fate, TheVariants.{Completed}}, FateRow.{FateRow}}
 use Rattle.dsa_book.specs.Totals.{actor_of}
-use Rattle.dsa_regs.specs.Command.{command_label}
+use Rattle.dsa_event_text.specs.Text.{command_with_operand}
 use Rattle.dsa_scenario.specs.declared.run.Record.{Record, TheVariants.{Stepped, Refused}}
 use Rattle.dsa_scenario.specs.Lines.{line_of_text, row_text}
 use Rattle.dsa_draw.specs.declared.{marks.Mark.{Mark, TheVariants.{Done, Failed}}, moment.Moment.{Moment}}
 use Rattle.dsa_draw.specs.{Marks.{mark_of}, Bands.{next_step}, Pages.{row_name_text, rect_text, rule_text, mark_text, small_number_text}}
 
--- ---- names of commands
+-- ---- commands
 
--- the name of a command, above its column
-unfoldable pub command_name_text : ℕ → Command → List ℕ
-command_name_text step command =
+-- the place above a column, and there a command with its operand
+unfoldable pub command_place_text : ℕ → List ℕ
+command_place_text step =
     codes "<text transform=\"translate(" ++ decimal (112 + 14 * step + 10) ++ codes " 76) rotate(-60)\">"
-    ++ command_label command ++ codes "</text>\n"
+
+abbrev pub command_name_text : ℕ → Command → List ℕ
+command_name_text step command =
+    command_place_text step ++ command_with_operand command ++ codes "</text>\n"
 
 abbrev pub event_name_text : ℕ → Event → List ℕ
 event_name_text step (Issue command) = command_name_text step command

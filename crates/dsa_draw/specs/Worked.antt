@@ -21,12 +21,12 @@ use Rattle.dsa_draw.specs.declared.{bars.{Bar.{Bar}, End.{End}}, engines.Lanes.{
 use Rattle.dsa_draw.specs.declared.bands.Band.{Band}
 use Rattle.dsa_draw.specs.declared.moment.{BandKind.TheVariants.{Queue, Group}, Level.{Level}, Moment.{Moment}}
 use Rattle.dsa_draw.specs.declared.run.Story.{Story}
-use Rattle.dsa_draw.specs.Pages.{svg_text, page_size_text, view_text, sheet_text, row_name_text, rule_text, dot_text}
+use Rattle.dsa_draw.specs.Pages.{svg_text, page_size_text, view_text, run_title_text, sheet_text, legend_text, row_name_text, rule_text, dot_text}
 use Rattle.dsa_draw.specs.Pages.{cross_text, rect_text, small_number_text}
-use Rattle.dsa_draw.specs.Bands.{lines_text, frame_text, name_text, band_range_text, band_text}
+use Rattle.dsa_draw.specs.Bands.{lines_text, frame_text, name_text, band_range_text, peak_text, band_text}
 use Rattle.dsa_draw.specs.Columns.{title_text, grid_text, label_text}
-use Rattle.dsa_draw.specs.Rows.{command_name_text, ended_head_text, names_above_text}
-use Rattle.dsa_draw.specs.Engines.{kind_phrase, holder_phrase, begin_phrase, bar_title_text, batch_title_text}
+use Rattle.dsa_draw.specs.Rows.{command_place_text, ended_head_text, names_above_text}
+use Rattle.dsa_draw.specs.Engines.{kind_phrase, holder_phrase, begin_phrase, bar_title_text, batch_title_text, sign_text}
 
 -- the band of the queue, or of the group, with this number
 abbrev pub queue_band : ℕ → Band
@@ -37,10 +37,10 @@ group_band number = record { kind = Group; number = number }
 
 -- what the rows unfold to compute texts
 unfoldable pub drawn_on_literals : ⊤
-unfolding digits_on_literals lines_text frame_text name_text band_range_text band_text title_text grid_text label_text
-    svg_text page_size_text view_text sheet_text rect_text small_number_text row_name_text rule_text dot_text
-    cross_text command_name_text ended_head_text names_above_text kind_phrase holder_phrase begin_phrase
-    bar_title_text batch_title_text
+unfolding digits_on_literals lines_text frame_text name_text band_range_text peak_text band_text title_text grid_text
+    label_text svg_text page_size_text view_text run_title_text sheet_text legend_text rect_text small_number_text
+    row_name_text rule_text dot_text cross_text command_place_text ended_head_text names_above_text kind_phrase
+    holder_phrase begin_phrase bar_title_text batch_title_text sign_text
 drawn_on_literals = tt
 
 -- the fate row of an entry that no batch has

@@ -2,7 +2,7 @@
 
 ghost use Rattle.std.specs.Prelude.{◌≡◌, ◌++◌, ◌==◌, [], cond, IfOk, OnOk};
 ghost use Rattle.dsa_event_text.specs.Added.{Adds};
-ghost use Rattle.dsa_draw.specs.Bands.{level_in, value_of, highest_of, turn_text, turns, levels_of, path_text, class_text, close_text, line_text, lines_text, frame_text, name_text, band_range_text, band_text, band_part_text, next_top, bands_text, bands_end, bands_of, bands_of_kind};
+ghost use Rattle.dsa_draw.specs.Bands.{level_in, value_of, raised, peaks_of, highest, reach_text, turn_text, turns, levels_of, path_text, class_text, close_text, line_text, lines_text, frame_text, name_text, band_range_text, peak_text, band_text, band_part_text, next_top, bands_text, bands_end, bands_of, bands_of_kind};
 
 use crate::geometry::{column_left, level_high};
 use crate::moment::{BandKind, Level, Moment, band_count};
@@ -27,6 +27,12 @@ enum Line {
     Limit,
 }
 
+const NOTHING: Level = Level {
+    filled: 0,
+    mark: 0,
+    limit: 0,
+};
+
 /// Where a band stands: its lower end, and the level at its upper one.
 #[derive(Clone, Copy)]
 struct Scale {
@@ -43,23 +49,35 @@ fn level_in(band: Band, moment: &Moment) -> Level
         BandKind::Group => &moment.groups,
     };
     let level = levels.get(usize::from(band.number));
-    level.copied().unwrap_or(Level {
-        filled: 0,
-        mark: 0,
-        limit: 0,
-    })
+    level.copied().unwrap_or(NOTHING)
 }
 
-// The highest level of the run; 0 where nothing was configured.
-fn highest_of(band: Band, moments: &[Moment]) -> u16
-    ensures { result ≡ highest_of band 0 moments.now }
+// Each of both at its highest.
+fn raised(most: Level, level: Level) -> Level
+    ensures { result ≡ raised most level }
 {
-    let mut most = 0u16;
+    Level {
+        filled: most.filled.max(level.filled),
+        mark: most.mark.max(level.mark),
+        limit: most.limit.max(level.limit),
+    }
+}
+
+// The peaks of the run; all is 0 where nothing was configured.
+fn peaks_of(band: Band, moments: &[Moment]) -> Level
+    ensures { result ≡ peaks_of band moments.now }
+{
+    let mut most = NOTHING;
     for moment in moments {
-        let level = level_in(band, moment);
-        most = most.max(level.limit).max(level.mark).max(level.filled);
+        most = raised(most, level_in(band, moment));
     }
     most
+}
+
+fn highest(peaks: Level) -> u16
+    ensures { result ≡ highest peaks }
+{
+    peaks.limit.max(peaks.mark).max(peaks.filled)
 }
 
 impl Line {
@@ -84,31 +102,36 @@ impl Line {
     }
 }
 
-// A line goes to the column of a step, and there to the height of a level.
-fn add_turn(text: &mut String, step: u32, level: u16, scale: Scale) -> Added
-    ensures { Adds result text.old text.new (turn_text scale.bottom scale.most step level) }
+// A line goes to the column of a step; after the level 0 nothing is drawn up to there.
+fn add_reach(text: &mut String, step: u32, before: u16, bottom: u32) -> Added
+    ensures { Adds result text.old text.new (reach_text bottom step before) }
 {
     let x = column_left(step);
+    if before == 0 {
+        write!(text, "M{x} {bottom}")
+    } else {
+        write!(text, "H{x}")
+    }
+}
+
+// There it goes to the height of a level.
+fn add_turn(text: &mut String, step: u32, before: u16, level: u16, scale: Scale) -> Added
+    ensures { Adds result text.old text.new (turn_text scale.bottom scale.most step before level) }
+{
     let y = u64::from(scale.bottom).saturating_sub(level_high(level, scale.most));
-    write!(text, "H{x}V{y}")
+    add_reach(text, step, before, scale.bottom)?;
+    write!(text, "V{y}")
 }
 
 // So it does where the level is another than before.
 fn add_level(text: &mut String, step: u32, before: u16, level: u16, scale: Scale) -> Added
     ensures { Adds result text.old text.new
-        (cond (level == before) [] (turn_text scale.bottom scale.most step level)) }
+        (cond (level == before) [] (turn_text scale.bottom scale.most step before level)) }
 {
     if level == before {
         return Ok(());
     }
-    add_turn(text, step, level, scale)
-}
-
-fn add_right_end(text: &mut String, step: u32) -> Added
-    ensures { Adds result text.old text.new (turns 0 0 step 0 []) }
-{
-    let x = column_left(step);
-    write!(text, "H{x}")
+    add_turn(text, step, before, level, scale)
 }
 
 // The turns of a line over all steps.
@@ -124,7 +147,7 @@ fn add_turns(text: &mut String, moments: &[Moment], band: Band, line: Line, scal
         before = level;
         step = step.saturating_add(1);
     }
-    add_right_end(text, step)
+    add_reach(text, step, before, scale.bottom)
 }
 
 // A line from its first step on.
@@ -189,6 +212,14 @@ fn add_range(text: &mut String, most: u16, top: u32) -> Added
     write!(text, "<text x=\"4\" y=\"{base}\">0 to {most}</text>\n")
 }
 
+#[tactic(auto, unfolding(crate::specs::Bands::peak_text))]
+fn add_peak(text: &mut String, peak: u16, top: u32) -> Added
+    ensures { Adds result text.old text.new (peak_text peak top) }
+{
+    let base = u64::from(top) + 37;
+    write!(text, "<text x=\"4\" y=\"{base}\">peak {peak}</text>\n")
+}
+
 #[tactic(auto, unfolding(crate::specs::Bands::lines_text))]
 fn add_lines(text: &mut String, moments: &[Moment], band: Band, scale: Scale) -> Added
     ensures { Adds result text.old text.new (lines_text scale.bottom scale.most band moments.now) }
@@ -198,26 +229,27 @@ fn add_lines(text: &mut String, moments: &[Moment], band: Band, scale: Scale) ->
     add_line(text, moments, band, Line::Limit, scale)
 }
 
-// Draws the band that begins at `top` and is full at `most`.
+// Draws the band that begins at `top` and has these peaks.
 #[tactic(auto, unfolding(crate::specs::Bands::band_text))]
 fn draw_band(
     text: &mut String,
     moments: &[Moment],
     steps: u32,
     band: Band,
-    most: u16,
+    peaks: Level,
     top: u32,
 ) -> Added
-    ensures { Adds result text.old text.new (band_text steps top most band moments.now) }
+    ensures { Adds result text.old text.new (band_text steps top peaks band moments.now) }
 {
     let scale = Scale {
         bottom: top.saturating_add(48),
-        most,
+        most: highest(peaks),
     };
     add_frame(text, steps, top)?;
     add_lines(text, moments, band, scale)?;
     add_band_name(text, band, top)?;
-    add_range(text, most, top)
+    add_range(text, scale.most, top)?;
+    add_peak(text, peaks.filled, top)
 }
 
 // Draws the band, where there is anything to draw, and says where the next one begins.
@@ -231,11 +263,11 @@ fn add_band(
     ensures text { Adds result text.old text.new (band_part_text steps top band moments.now) }
     ensures next { IfOk result (λ next. next ≡ next_top top band moments.now) }
 {
-    let most = highest_of(band, moments);
-    if most == 0 {
+    let peaks = peaks_of(band, moments);
+    if highest(peaks) == 0 {
         return Ok(top);
     }
-    draw_band(text, moments, steps, band, most, top)?;
+    draw_band(text, moments, steps, band, peaks, top)?;
     Ok(top.saturating_add(56))
 }
 

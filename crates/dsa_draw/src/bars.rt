@@ -2,7 +2,7 @@
 
 ghost use Rattle.std.specs.Prelude.{◌≡◌, [], ◌∷◌, ◌++◌, cond, nat_lt, set, length, IfOk, OnOk};
 ghost use Rattle.dsa_draw.specs.Rows.{rows_between};
-ghost use Rattle.dsa_draw.specs.Bars.{noted_in, with_name, with_bar, with_change, changed_at, place_of, started_at, ended_at, with_ends, is_batch_named, taken_bar, fetched_bar, engine_of_actor, noted_submit, noted_dispatch, noted_fetch, noted_start, noted_reply, noted_record, noted_moment, bars_of, end_step, is_kind, is_bar_of, free_place, lane_number, in_lane, lanes_after, in_lanes, all_lanes, lane_count};
+ghost use Rattle.dsa_draw.specs.Bars.{noted_in, with_name, with_bar, with_change, changed_at, place_of, started_at, ended_at, with_ends, is_batch_named, begun_bar, taken_bar, fetched_bar, engine_of_actor, noted_submit, noted_dispatch, noted_fetch, noted_start, noted_reply, noted_record, noted_moment, bars_of, end_step, is_kind, is_bar_of, free_place, lane_number, in_lane, lanes_after, in_lanes, all_lanes, lane_count};
 ghost use Rattle.dsa_book.specs.Totals.{actor_of};
 
 use crate::moment::Moment;
@@ -35,6 +35,14 @@ pub struct Bar {
     pub end: Option<End>,
     /// Its lane among the engine's, or among those of the engine's members.
     pub lane: u32,
+}
+
+/// What brings an entry to an engine: this step, while the engine works on this batch.
+#[derive(Clone, Copy)]
+struct Arrival {
+    engine: u16,
+    step: u32,
+    batch: Option<u32>,
 }
 
 /// The bars in the order in which they begin, and for each name the place of its bar.
@@ -130,38 +138,24 @@ impl Table {
         }
     }
 
-    fn note_dispatch(
-        &mut self,
-        answer: DispatchAnswer,
-        engine: u16,
-        step: u32,
-        batch: Option<u32>,
-    ) -> Result<(), AllocError>
-        ensures { OnOk result
-            (noted_in self.new ≡ noted_dispatch step engine batch answer (noted_in self.old)) }
+    fn note_dispatch(&mut self, answer: DispatchAnswer, arrival: Arrival) -> Result<(), AllocError>
+        ensures { OnOk result (noted_in self.new
+            ≡ noted_dispatch arrival.step arrival.engine arrival.batch answer (noted_in self.old)) }
     {
         match answer {
-            DispatchAnswer::Taken { ticket, .. } => {
-                self.take(taken_bar(ticket.name, engine, step, batch))
-            }
+            DispatchAnswer::Taken { ticket, .. } => self.take(taken_bar(ticket.name, arrival)),
             _ => Ok(()),
         }
     }
 
-    fn note_fetch(
-        &mut self,
-        answer: FetchAnswer,
-        engine: u16,
-        step: u32,
-        batch: Option<u32>,
-    ) -> Result<(), AllocError>
-        ensures { OnOk result
-            (noted_in self.new ≡ noted_fetch step engine batch answer (noted_in self.old)) }
+    fn note_fetch(&mut self, answer: FetchAnswer, arrival: Arrival) -> Result<(), AllocError>
+        ensures { OnOk result (noted_in self.new
+            ≡ noted_fetch arrival.step arrival.engine arrival.batch answer (noted_in self.old)) }
     {
         match answer {
             FetchAnswer::Fetched(ticket) => {
                 self.name(None)?;
-                self.take(fetched_bar(ticket.name, engine, step, batch))
+                self.take(fetched_bar(ticket.name, arrival))
             }
             _ => Ok(()),
         }
@@ -182,11 +176,15 @@ impl Table {
             ≡ noted_reply step (engine_of_actor (actor_of made.now.event)) batch made.now.reply
             (noted_in self.old)) }
     {
-        let engine = engine_of(made);
+        let arrival = Arrival {
+            engine: engine_of(made),
+            step,
+            batch,
+        };
         match made.reply {
             Reply::Submit(answer) => self.note_submit(answer),
-            Reply::Dispatch(answer) => self.note_dispatch(answer, engine, step, batch),
-            Reply::Fetch(answer) => self.note_fetch(answer, engine, step, batch),
+            Reply::Dispatch(answer) => self.note_dispatch(answer, arrival),
+            Reply::Fetch(answer) => self.note_fetch(answer, arrival),
             Reply::Start(answer) => {
                 self.note_start(answer, step);
                 Ok(())
@@ -246,33 +244,38 @@ fn is_batch_named(batch: Option<u32>, name: u32) -> bool
     }
 }
 
-fn taken_bar(name: u32, engine: u16, step: u32, batch: Option<u32>) -> Bar
-    ensures { result ≡ taken_bar name engine step batch }
+// What comes to an engine, before more is known of it.
+fn begun_bar(name: u32, arrival: Arrival) -> Bar
+    ensures { result ≡ begun_bar name arrival.engine arrival.step }
 {
     Bar {
         name,
-        engine,
+        engine: arrival.engine,
         parent: None,
-        is_batch: is_batch_named(batch, name),
-        begin: step,
-        started: Some(step),
+        is_batch: false,
+        begin: arrival.step,
+        started: None,
         end: None,
         lane: 0,
     }
 }
 
-fn fetched_bar(name: u32, engine: u16, step: u32, batch: Option<u32>) -> Bar
-    ensures { result ≡ fetched_bar name engine step batch }
+fn taken_bar(name: u32, arrival: Arrival) -> Bar
+    ensures { result ≡ taken_bar name arrival.engine arrival.step arrival.batch }
 {
     Bar {
-        name,
-        engine,
-        parent: batch,
-        is_batch: false,
-        begin: step,
-        started: None,
-        end: None,
-        lane: 0,
+        is_batch: is_batch_named(arrival.batch, name),
+        started: Some(arrival.step),
+        ..begun_bar(name, arrival)
+    }
+}
+
+fn fetched_bar(name: u32, arrival: Arrival) -> Bar
+    ensures { result ≡ fetched_bar name arrival.engine arrival.step arrival.batch }
+{
+    Bar {
+        parent: arrival.batch,
+        ..begun_bar(name, arrival)
     }
 }
 

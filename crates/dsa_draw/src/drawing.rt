@@ -4,7 +4,7 @@ ghost use Rattle.std.specs.Prelude.{◌≡◌, ◌++◌, ◌==◌, cond, nat_lt,
 ghost use Rattle.std.specs.List.{range_with_len};
 ghost use Rattle.dsa_event_text.specs.Added.{Adds};
 ghost use Rattle.dsa_draw.specs.Columns.{asked_text, title_text, column_text, grid_text, label_text, step_number_text, fifth_text, columns_text};
-ghost use Rattle.dsa_draw.specs.Rows.{command_name_text, event_name_text, label_above_text, asker_of, asker_text, fate_mark, ended_head_text, ended_title_text, ended_text, fates_text, marks_of_step_text, marks_above_text, names_above_text, rows_above_text};
+ghost use Rattle.dsa_draw.specs.Rows.{command_place_text, command_name_text, event_name_text, label_above_text, asker_of, asker_text, fate_mark, ended_head_text, ended_title_text, ended_text, fates_text, marks_of_step_text, marks_above_text, names_above_text, rows_above_text};
 ghost use Rattle.dsa_draw.specs.{Engines.{engines_text, engines_end}, Pages.{small_number_text}};
 ghost use Rattle.dsa_draw.specs.Drawings.{step_count, IsTextOf};
 
@@ -14,10 +14,12 @@ use crate::engines::add_engine;
 use crate::geometry::column_left;
 use crate::marks::{Mark, mark_of};
 use crate::moment::Moment;
-use crate::page::{add_foot, add_head, add_mark, add_name, add_rect, add_rule, add_small_number};
+use crate::page::{
+    add_foot, add_head, add_legend, add_mark, add_name, add_rect, add_rule, add_small_number,
+};
 use crate::run::Story;
 use dsa_book::{Actor, Event, Fate, FateRow};
-use dsa_event_text::{Added, add_event};
+use dsa_event_text::{Added, add_command, add_event};
 use dsa_regs::Command;
 use dsa_scenario::{Record, add_answer, add_rows};
 use std::alloc::{AllocError, Global};
@@ -124,17 +126,21 @@ fn add_columns(text: &mut String, moments: &[Moment], height: u32) -> Added
 
 // ---- the rows above the bands
 
-// The name of a command stands above its column.
-#[tactic(auto, unfolding(crate::specs::Rows::command_name_text))]
+#[tactic(auto, unfolding(crate::specs::Rows::command_place_text))]
+fn add_command_place(text: &mut String, step: u32) -> Added
+    ensures { Adds result text.old text.new (command_place_text step) }
+{
+    let x = column_left(step) + 10;
+    write!(text, "<text transform=\"translate({x} 76) rotate(-60)\">")
+}
+
+// A command with its operand stands above its column.
 fn add_command_name(text: &mut String, command: &Command, step: u32) -> Added
     ensures { Adds result text.old text.new (command_name_text step command.now) }
 {
-    let x = column_left(step) + 10;
-    let name = command.label();
-    write!(
-        text,
-        "<text transform=\"translate({x} 76) rotate(-60)\">{name}</text>\n"
-    )
+    add_command_place(text, step)?;
+    add_command(text, command)?;
+    text.push_str("</text>\n")
 }
 
 fn add_event_name(text: &mut String, event: &Event, step: u32) -> Added
@@ -343,6 +349,7 @@ pub fn draw(alloc: Global, story: &Story) -> Result<String, AllocError>
     let mut below = String::new(alloc);
     let engines = story.caps.engines;
     let height = add_engines(alloc, &mut below, moments, &bars, engines, steps, top)?;
+    add_legend(&mut below, height)?;
     add_foot(&mut below)?;
     let mut text = String::new(alloc);
     add_head(&mut text, steps, height)?;

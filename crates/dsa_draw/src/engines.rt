@@ -5,10 +5,10 @@ ghost use Rattle.std.specs.Fmt.{digit_glyph};
 ghost use Rattle.dsa_event_text.specs.Added.{Adds};
 ghost use Rattle.dsa_scenario.specs.Lines.{two_digits};
 ghost use Rattle.dsa_draw.specs.Bars.{end_step};
-ghost use Rattle.dsa_draw.specs.Engines.{is_step_by, has_steps, engine_mark_text, engine_marks_text, class_of_fate, class_of_end, fate_phrase, kind_phrase, holder_phrase, parent_phrase, begin_phrase, end_phrase, bar_title_text, box_text, box_part_text, name_room, bar_name_text, lane_by, bar_top, boxes_text, bar_text, bars_text, lanes_bottom, batch_title_text, batch_text, batches_text, taken_in_lanes, bars_in_lanes, lanes_of, engine_bottom, engine_rows_text, engine_part_text, engine_end};
+ghost use Rattle.dsa_draw.specs.Engines.{is_step_by, has_steps, engine_mark_text, engine_marks_text, class_of_fate, class_of_end, sign_of_fate, sign_of, strokes_text, sign_text, end_sign_text, bar_room, fate_phrase, kind_phrase, holder_phrase, parent_phrase, begin_phrase, end_phrase, bar_title_text, box_text, box_part_text, name_room, bar_name_text, lane_by, bar_top, boxes_text, bar_text, bars_text, lanes_bottom, batch_title_text, batch_text, batches_text, taken_in_lanes, bars_in_lanes, lanes_of, engine_bottom, engine_rows_text, engine_part_text, engine_end};
 
 use crate::bars::{Bar, End, lay_bars};
-use crate::geometry::{columns_wide, lane_top};
+use crate::geometry::{column_left, columns_wide, lane_top};
 use crate::marks::mark_of;
 use crate::moment::Moment;
 use crate::page::{add_mark, add_numbered, add_rect, add_rule, add_small_number};
@@ -25,6 +25,15 @@ struct Lanes {
     taken: u32,
     members: u32,
     last: u32,
+}
+
+/// What stands at the end of a bar, beside its colour.
+#[derive(Clone, Copy)]
+enum Sign {
+    /// The entry was not successful.
+    Cross,
+    /// It was aborted or abandoned.
+    Slash,
 }
 
 fn is_of(entry: &Record, engine: u16) -> bool
@@ -86,6 +95,31 @@ fn class_of(end: Option<End>) -> &'static str
             _ => "lost",
         },
     }
+}
+
+fn sign_of_status(status: u8) -> Option<Sign>
+    ensures { result ≡ cond (status == 1) None (Some Sign.Cross) }
+{
+    if status == 0x01 {
+        None
+    } else {
+        Some(Sign::Cross)
+    }
+}
+
+fn sign_of_fate(fate: Fate) -> Option<Sign>
+    ensures { result ≡ sign_of_fate fate }
+{
+    match fate {
+        Fate::Completed(status) => sign_of_status(status),
+        _ => Some(Sign::Slash),
+    }
+}
+
+fn sign_of(end: Option<End>) -> Option<Sign>
+    ensures { result ≡ sign_of end }
+{
+    sign_of_fate(end?.fate)
 }
 
 fn hex_digit(n: u8) -> char
@@ -199,7 +233,7 @@ fn add_box_part(text: &mut String, class: &str, begin: u32, end: u32, y: u64) ->
     }
 }
 
-fn name_room(name: u32) -> u64
+fn name_room(name: u64) -> u64
     ensures { result ≡ name_room name }
 {
     if name < 100 {
@@ -211,14 +245,55 @@ fn name_room(name: u32) -> u64
     }
 }
 
+// A sign takes as much room as one digit more.
+fn bar_room(bar: &Bar) -> u64
+    ensures { result ≡ bar_room bar.now }
+{
+    let name = u64::from(bar.name);
+    if sign_of(bar.end).is_some() {
+        name_room(10 * name)
+    } else {
+        name_room(name)
+    }
+}
+
 // The name stands in a bar that is wide enough for it.
 fn add_bar_name(text: &mut String, bar: &Bar, end: u32, base: u64) -> Added
     ensures { Adds result text.old text.new (bar_name_text bar.now end base) }
 {
-    if columns_wide(bar.begin, end) < name_room(bar.name) {
+    if columns_wide(bar.begin, end) < bar_room(bar) {
         return Ok(());
     }
     add_small_number(text, bar.begin, base, u64::from(bar.name))
+}
+
+impl Sign {
+    fn strokes(self) -> &'static str
+        ensures { result.now ≡ strokes_text self }
+    {
+        match self {
+            Sign::Cross => "l4 4m0-4l-4 4",
+            Sign::Slash => "m0 4l4-4",
+        }
+    }
+}
+
+#[tactic(auto, unfolding(crate::specs::Engines::sign_text))]
+fn add_sign(text: &mut String, sign: Sign, end: u32, y: u64) -> Added
+    ensures { Adds result text.old text.new (sign_text sign end y) }
+{
+    let x = column_left(end) - 6;
+    let strokes = sign.strokes();
+    write!(text, "<path class=\"sign\" d=\"M{x} {y}{strokes}\"/>")
+}
+
+fn add_end_sign(text: &mut String, sign: Option<Sign>, end: u32, y: u64) -> Added
+    ensures { Adds result text.old text.new (end_sign_text sign end y) }
+{
+    match sign {
+        Some(sign) => add_sign(text, sign, end, y),
+        None => Ok(()),
+    }
 }
 
 fn lane_of(bar: &Bar, lanes: Lanes) -> u32
@@ -236,7 +311,8 @@ fn add_boxes(text: &mut String, bar: &Bar, runs: u32, end: u32, y: u64) -> Added
 {
     add_box_part(text, "waits", bar.begin, runs, y)?;
     add_box_part(text, class_of(bar.end), runs, end, y)?;
-    add_bar_name(text, bar, end, y + 9)
+    add_bar_name(text, bar, end, y + 9)?;
+    add_end_sign(text, sign_of(bar.end), end, y + 4)
 }
 
 fn add_bar(text: &mut String, bar: &Bar, lanes: Lanes) -> Added

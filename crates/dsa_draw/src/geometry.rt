@@ -3,7 +3,8 @@
 //! A column for each step, from left to right, and a number of 32 bits for each step: a place is
 //! one of 64, so that no sum of these wraps.
 
-ghost use Rattle.std.specs.Prelude.{◌≡◌, ◌+◌, ◌-◌, ◌*◌, ◌/◌, min, max};
+ghost use Rattle.std.specs.Prelude.{◌≡◌, ◌+◌, ◌-◌, ◌*◌};
+ghost use Rattle.dsa_draw.specs.Bands.{level_height};
 
 /// The left end of the first column, behind the names of the rows.
 const LEFT: u64 = 112;
@@ -13,6 +14,9 @@ const COLUMN: u64 = 14;
 
 /// The height of a band of levels.
 pub const BAND: u64 = 48;
+
+/// The least height of a level that is not 0.
+const LEAST: u64 = 2;
 
 /// The height of a lane of bars.
 pub const LANE: u64 = 13;
@@ -31,11 +35,15 @@ pub fn columns_wide(begin: u32, end: u32) -> u64
     COLUMN * u64::from(end.saturating_sub(begin))
 }
 
-/// How high a level stands in a band that is full at `most`.
+/// How high a level stands in a band that is full at `most`; one that is not 0 can be seen.
 pub fn level_high(level: u16, most: u16) -> u64
-    ensures { result ≡ 48 * min level most / max most 1 }
+    ensures { result ≡ level_height most level }
 {
-    BAND * u64::from(level.min(most)) / u64::from(most.max(1))
+    if level == 0 {
+        return 0;
+    }
+    let high = BAND * u64::from(level.min(most)) / u64::from(most.max(1));
+    high.max(LEAST)
 }
 
 /// The upper end of a lane, counted from 0, of those that begin at `top`.

@@ -2,17 +2,17 @@
 
 ghost use Rattle.std.specs.Prelude.{◌≡◌, ◌<◌, IfOk, map, option_map};
 ghost use Rattle.std.specs.List.{range_with_len};
-ghost use Rattle.dsa_draw.specs.Moments.{level_with, queue_level_of, group_level_of, level_of, band_count, batch_after, IsMomentOf};
+ghost use Rattle.dsa_draw.specs.Moments.{level_with, queue_mark, queue_level_of, group_level_of, level_of, band_count, batch_after, IsMomentOf};
 
 use dsa_book::{Actor, BatchNote};
 use dsa_device::Device;
-use dsa_regs::Caps;
+use dsa_regs::{Caps, QueueConfig};
 use dsa_scenario::Record;
 use dsa_store::EntryStore;
 use std::alloc::{AllocError, Global};
 
-/// How full something is: of a queue its occupancy, its threshold and its size, of a group the read
-/// buffers that are used, reserved and allowed.
+/// How full something is: of a queue its occupancy, its threshold where it has one and its size, of
+/// a group the read buffers that are used, reserved and allowed.
 #[derive(Clone, Copy)]
 pub struct Level {
     pub filled: u16,
@@ -51,13 +51,24 @@ fn level_with(filled: Option<u16>, mark: u16, limit: u16) -> Level
     }
 }
 
+// A dedicated queue ignores its threshold.
+fn queue_mark(config: &QueueConfig) -> u16
+    ensures { result ≡ queue_mark config.now }
+{
+    if config.dedicated {
+        0
+    } else {
+        config.threshold
+    }
+}
+
 /// The level of a queue of the device.
 pub fn queue_level<S: EntryStore>(device: &Device<S>, queue: u16) -> Level
     requires { queue < device.now.caps.queues }
     ensures { result ≡ queue_level_of device.now queue }
 {
     match device.queue_config(queue) {
-        Some(config) => level_with(device.occupancy(queue), config.threshold, config.size),
+        Some(config) => level_with(device.occupancy(queue), queue_mark(&config), config.size),
         None => level_with(None, 0, 0),
     }
 }

@@ -1,12 +1,13 @@
 //! Pieces of a page: its head and foot, its style, names, lines and marks.
 
+ghost use Rattle.std.specs.Prelude.{◌≡◌};
 ghost use Rattle.dsa_event_text.specs.Added.{Adds};
 ghost use Rattle.dsa_draw.specs.Bands.{numbered_text};
-ghost use Rattle.dsa_draw.specs.Pages.{svg_text, page_size_text, view_text, style_text, sheet_text, rect_text, small_number_text, head_text, foot_text, row_name_text, rule_text, dot_text, cross_text, mark_text};
+ghost use Rattle.dsa_draw.specs.Pages.{svg_text, page_size_text, view_text, run_title_text, told_text, description_text, page_height, shapes_text, legend_text, style_text, sheet_text, rect_text, small_number_text, head_text, foot_text, row_name_text, rule_text, dot_text, cross_text, mark_text};
 
 use crate::geometry::{column_left, columns_wide};
 use crate::marks::Mark;
-use dsa_event_text::Added;
+use dsa_event_text::{Added, add_count};
 use std::fmt::Write;
 
 // Colours for light and for dark. Titles are those of columns and bars, so marks let the pointer
@@ -16,7 +17,7 @@ text{font:10px ui-monospace,monospace;fill:#1f2328}
 .sheet{fill:#ffffff}.column{fill:#ffffff;fill-opacity:0}.grid{stroke:#d8dee4}.frame{fill:none;stroke:#d8dee4}
 .filled{fill:#9ec9f5}.mark{fill:none;stroke:#bf8700;stroke-dasharray:4 2}.limit{fill:none;stroke:#6e7781}
 .done{fill:#1a7f37}.wait{fill:none;stroke:#9a6700}.failed{fill:none;stroke:#cf222e;stroke-width:1.5}
-.done,.wait,.failed,.label{pointer-events:none}
+.sign{fill:none;stroke:#1f2328}.done,.wait,.failed,.sign,.label{pointer-events:none}
 .waits{fill:#eaeef2;stroke:#6e7781;stroke-dasharray:2 2}.batch{fill:#fff8c5;fill-opacity:.6;stroke:#bf8700}
 .held{fill:#b6d7fb;stroke:#0969da}.success{fill:#aceebb;stroke:#1a7f37}.failure{fill:#ffcecb;stroke:#cf222e}
 .lost{fill:#d0d7de;stroke:#57606a}
@@ -24,8 +25,46 @@ text{font:10px ui-monospace,monospace;fill:#1f2328}
 .filled{fill:#1f4a7a}.mark{stroke:#d29922}.limit{stroke:#8b949e}.done{fill:#3fb950}.wait{stroke:#d29922}
 .failed{stroke:#f85149}.waits{fill:#21262d;stroke:#8b949e}.batch{fill:#3b2e00;stroke:#d29922}
 .held{fill:#14386b;stroke:#58a6ff}.success{fill:#12391f;stroke:#3fb950}.failure{fill:#5c1a1b;stroke:#f85149}
-.lost{fill:#343b43;stroke:#8b949e}}
+.sign{stroke:#e6edf3}.lost{fill:#343b43;stroke:#8b949e}}
 </style>
+";
+
+// For those who do not see the picture.
+const DESCRIPTION: &str = "<desc>Each step has a column, whose title says what was asked and
+answered. The rows, from the top: commands; marks for what clients and the administrator asked;
+marks where entries ended; how full each queue is, and the read buffers of each group; for each
+engine marks for its steps, and a bar for each entry that it had. A legend is below.</desc>
+";
+
+// What stands above and below the rows: 28 for long commands, and a legend of 168.
+const BESIDE_ROWS: u32 = 196;
+
+const LEGEND: &str = "<circle class=\"done\" cx=\"14\" cy=\"14\" r=\"3\"/>
+<text x=\"28\" y=\"18\">done as asked</text>
+<circle class=\"wait\" cx=\"14\" cy=\"27\" r=\"3\"/>
+<text x=\"28\" y=\"31\">ask again, or nothing to do</text>
+<path class=\"failed\" d=\"M11 37l6 6m0-6l-6 6\"/>
+<text x=\"28\" y=\"44\">refused or failed</text>
+<rect x=\"6\" y=\"49\" width=\"16\" height=\"8\" class=\"filled\"/>
+<text x=\"28\" y=\"57\">waiting, or in use</text>
+<path class=\"mark\" d=\"M6 66h16\"/>
+<text x=\"28\" y=\"70\">threshold, or reserved</text>
+<path class=\"limit\" d=\"M6 79h16\"/>
+<text x=\"28\" y=\"83\">size, or allowed</text>
+<rect x=\"6\" y=\"88\" width=\"16\" height=\"8\" rx=\"2\" class=\"waits\"/>
+<text x=\"28\" y=\"96\">member not started</text>
+<rect x=\"6\" y=\"101\" width=\"16\" height=\"8\" rx=\"2\" class=\"held\"/>
+<text x=\"28\" y=\"109\">still held</text>
+<rect x=\"6\" y=\"114\" width=\"16\" height=\"8\" rx=\"2\" class=\"success\"/>
+<text x=\"28\" y=\"122\">completed 01</text>
+<rect x=\"6\" y=\"127\" width=\"16\" height=\"8\" rx=\"2\" class=\"failure\"/>
+<path class=\"sign\" d=\"M16 129l4 4m0-4l-4 4\"/>
+<text x=\"28\" y=\"135\">completed otherwise</text>
+<rect x=\"6\" y=\"140\" width=\"16\" height=\"8\" rx=\"2\" class=\"lost\"/>
+<path class=\"sign\" d=\"M16 146l4-4\"/>
+<text x=\"28\" y=\"148\">aborted or abandoned</text>
+<rect x=\"6\" y=\"153\" width=\"16\" height=\"8\" class=\"batch\"/>
+<text x=\"28\" y=\"161\">batch and its members</text>
 ";
 
 #[tactic(auto, unfolding(crate::specs::Pages::svg_text))]
@@ -46,7 +85,30 @@ fn add_size(text: &mut String, width: u64, height: u32) -> Added
 fn add_view(text: &mut String, width: u64, height: u32) -> Added
     ensures { Adds result text.old text.new (view_text width height) }
 {
-    write!(text, " viewBox=\"0 0 {width} {height}\">\n")
+    write!(text, " viewBox=\"0 -28 {width} {height}\" role=\"img\">\n")
+}
+
+#[tactic(auto, unfolding(crate::specs::Pages::description_text))]
+fn add_description(text: &mut String) -> Added
+    ensures { Adds result text.old text.new description_text }
+{
+    text.push_str(DESCRIPTION)
+}
+
+#[tactic(auto, unfolding(crate::specs::Pages::run_title_text))]
+fn add_run_title(text: &mut String, steps: u64) -> Added
+    ensures { Adds result text.old text.new (run_title_text steps) }
+{
+    add_count(text, "<title>Run of ", steps, "step", "steps")
+}
+
+// What the page is of, in words.
+fn add_told(text: &mut String, steps: u32) -> Added
+    ensures { Adds result text.old text.new (told_text steps) }
+{
+    add_run_title(text, u64::from(steps))?;
+    text.push_str("</title>\n")?;
+    add_description(text)
 }
 
 #[tactic(auto, unfolding(crate::specs::Pages::style_text))]
@@ -62,7 +124,7 @@ fn add_sheet(text: &mut String, width: u64, height: u32) -> Added
 {
     write!(
         text,
-        "<rect class=\"sheet\" width=\"{width}\" height=\"{height}\"/>\n"
+        "<rect class=\"sheet\" y=\"-28\" width=\"{width}\" height=\"{height}\"/>\n"
     )
 }
 
@@ -90,16 +152,41 @@ pub fn add_small_number(text: &mut String, step: u32, base: u64, number: u64) ->
     )
 }
 
-/// Begins a page for so many steps, so high.
-pub fn add_head(text: &mut String, steps: u32, height: u32) -> Added
-    ensures { Adds result text.old text.new (head_text steps height) }
+fn page_height(rows: u32) -> u32
+    ensures { result ≡ page_height rows }
+{
+    rows.saturating_add(BESIDE_ROWS)
+}
+
+/// Begins a page for so many steps, whose rows are so high.
+pub fn add_head(text: &mut String, steps: u32, rows: u32) -> Added
+    ensures { Adds result text.old text.new (head_text steps rows) }
 {
     let width = column_left(steps) + 56;
+    let height = page_height(rows);
     add_svg(text)?;
     add_size(text, width, height)?;
     add_view(text, width, height)?;
+    add_told(text, steps)?;
     add_style(text)?;
     add_sheet(text, width, height)
+}
+
+#[tactic(auto, unfolding(crate::specs::Pages::shapes_text))]
+fn add_shapes(text: &mut String) -> Added
+    ensures { Adds result text.old text.new shapes_text }
+{
+    text.push_str(LEGEND)
+}
+
+/// What the marks, lines and bars mean, below the rows.
+#[tactic(auto, unfolding(crate::specs::Pages::legend_text))]
+pub fn add_legend(text: &mut String, rows: u32) -> Added
+    ensures { Adds result text.old text.new (legend_text rows) }
+{
+    write!(text, "<g transform=\"translate(0 {rows})\">\n")?;
+    add_shapes(text)?;
+    text.push_str("</g>\n")
 }
 
 /// Ends a page.

@@ -3,7 +3,7 @@
 ghost use Rattle.std.specs.Prelude.{◌≡◌, ◌++◌, [], ◌∷◌, Some, None, true, false, map, replicate, take, codes};
 ghost use Rattle.std.proofs.Common.{lit≤};
 ghost use Rattle.std.specs.declared.{alloc.Global.{Global}, vec.Vec.{Vec}};
-ghost use Rattle.dsa_regs.specs.declared.Command.TheVariants.{EnableDevice};
+ghost use Rattle.dsa_regs.specs.declared.Command.TheVariants.{DrainPasid, EnableDevice};
 ghost use Rattle.dsa_regs.specs.declared.Fault.TheVariants.{BadCommand};
 ghost use Rattle.dsa_book.specs.declared.answer.Cause.TheVariants.{AtLimit};
 ghost use Rattle.dsa_book.specs.declared.answer.ClearAnswer.TheVariants as clear;
@@ -23,19 +23,20 @@ ghost use Rattle.dsa_book.specs.declared.event.Event.TheVariants as event;
 ghost use Rattle.dsa_book.specs.declared.fate.Fate.TheVariants.{Abandoned, Aborted, Completed};
 ghost use Rattle.dsa_scenario.specs.declared.run.Record.TheVariants.{Refused};
 ghost use Rattle.dsa_scenario.specs.Steps.{standing};
-ghost use Rattle.dsa_scenario.specs.Worked.{caps_of_a_run, fill, record_ticket, records_of_a_run, stepped};
+ghost use Rattle.dsa_scenario.specs.Worked.{caps_of_a_run, fill, queue_of_a_run, record_ticket, records_of_a_run, stepped};
 ghost use Rattle.dsa_draw.specs.declared.marks.Mark.TheVariants.{Done, Wait, Failed};
+ghost use Rattle.dsa_draw.specs.declared.engines.Sign.TheVariants.{Cross, Slash};
 ghost use Rattle.dsa_draw.specs.declared.bands.{Line.TheVariants.{Filled, Mark, Limit}};
 ghost use Rattle.dsa_draw.specs.declared.moment.Level.{Level};
 ghost use Rattle.dsa_draw.specs.Marks.{mark_of, reply_mark};
-ghost use Rattle.dsa_draw.specs.Bands.{bands_end, bands_of, bands_text, band_text, highest_of, level_in, line_text, class_text, close_text, frame_text, highest, lower_end, name_text, next_step, next_top, path_text, band_range_text, value_of};
-ghost use Rattle.dsa_draw.specs.Moments.{batch_after, group_level_of, IsMomentOf, level_with, queue_level_of};
+ghost use Rattle.dsa_draw.specs.Bands.{bands_end, bands_of, bands_text, band_text, level_height, level_in, peak_text, peaks_of, raised, line_text, class_text, close_text, frame_text, highest, lower_end, name_text, next_step, next_top, path_text, band_range_text, value_of};
+ghost use Rattle.dsa_draw.specs.Moments.{batch_after, group_level_of, IsMomentOf, level_with, queue_level_of, queue_mark};
 ghost use Rattle.dsa_draw.specs.Drawings.{AreMoments, drawing_text, IsDrawnOf, IsStoryOf, step_count, story_bands_end, story_bands_text, story_engines_text, story_height};
 ghost use Rattle.dsa_draw.specs.Columns.{asked_text, column_text, columns_text, fifth_text};
-ghost use Rattle.dsa_draw.specs.Pages.{page_width, page_size_text, view_text, sheet_text, style_text, head_text, foot_text, row_name_text, rule_text, mark_text};
+ghost use Rattle.dsa_draw.specs.Pages.{page_width, page_height, page_size_text, view_text, told_text, description_text, shapes_text, legend_text, sheet_text, style_text, head_text, foot_text, row_name_text, rule_text, mark_text};
 ghost use Rattle.dsa_draw.specs.Rows.{label_above_text, asker_of, asker_mark_text, asker_text, rows_between, fate_mark, fates_text, names_above_text, marks_above_text, rows_above_text};
 ghost use Rattle.dsa_draw.specs.Bars.{bars_of, end_step, engine_of_actor, is_batch_named, free_place, in_lanes, all_lanes, lane_number, lanes_taken, is_bar_of};
-ghost use Rattle.dsa_draw.specs.Engines.{bar_text, bars_text, batches_text, bars_in_lanes, box_part_text, bar_name_text, bar_title_text, class_of_end, class_of_fate, end_phrase, engine_bottom, engine_end, engine_marks_text, engine_part_text, engines_end, engines_text, fate_phrase, has_steps, is_step_by, lane_by, lanes_high, lanes_of, name_room, parent_phrase};
+ghost use Rattle.dsa_draw.specs.Engines.{bar_text, bars_text, bar_room, sign_of, sign_of_fate, end_sign_text, batches_text, bars_in_lanes, box_part_text, bar_name_text, bar_title_text, class_of_end, class_of_fate, end_phrase, engine_bottom, engine_end, engine_marks_text, engine_part_text, engines_end, engines_text, fate_phrase, has_steps, is_step_by, lane_by, lanes_high, lanes_of, name_room, parent_phrase};
 ghost use Rattle.dsa_draw.specs.Worked.{bar_from, end_at, ended_row, five_lanes, group_band, moment_of, moments_of_a_batch, queue_band};
 ghost use Rattle.dsa_draw.specs.Worked.{caps_of_a_drawing, device_of_a_drawing, idle_step, level, moment_of_a_device, moments_of_a_third_name, moments_with_levels, story, story_of_a_device, story_with, vector, visit_of_a_device};
 
@@ -44,13 +45,22 @@ ghost use Rattle.dsa_draw.specs.Worked.{caps_of_a_drawing, device_of_a_drawing, 
 pub fn pages()
     ensures width { map page_width (0 ∷ 3 ∷ []) ≡ 168 ∷ 210 ∷ [] }
     ensures size { page_size_text 210 99 ≡ codes " width=\"210\" height=\"99\"" }
-    ensures view { view_text 210 99 ≡ codes " viewBox=\"0 0 210 99\">\n" }
+    ensures view { view_text 210 99 ≡ codes " viewBox=\"0 -28 210 99\" role=\"img\">\n" }
+    ensures told { told_text 3
+        ≡ codes "<title>Run of 3 steps</title>\n" ++ description_text }
+    ensures told_of_one { told_text 1
+        ≡ codes "<title>Run of 1 step</title>\n" ++ description_text }
+    ensures height { map page_height (99 ∷ 4294967295 ∷ []) ≡ 295 ∷ 4294967295 ∷ [] }
+    ensures legend { legend_text 99
+        ≡ codes "<g transform=\"translate(0 99)\">\n" ++ (shapes_text ++ codes "</g>\n") }
     ensures sheet { sheet_text 210 99
-        ≡ codes "<rect class=\"sheet\" width=\"210\" height=\"99\"/>\n" }
+        ≡ codes "<rect class=\"sheet\" y=\"-28\" width=\"210\" height=\"99\"/>\n" }
     ensures head { head_text 3 99
-        ≡ codes "<svg xmlns=\"http://www.w3.org/2000/svg\" width=\"210\" height=\"99\""
-        ++ codes " viewBox=\"0 0 210 99\">\n"
-        ++ (style_text ++ codes "<rect class=\"sheet\" width=\"210\" height=\"99\"/>\n") }
+        ≡ codes "<svg xmlns=\"http://www.w3.org/2000/svg\" width=\"210\" height=\"295\""
+        ++ codes " viewBox=\"0 -28 210 295\" role=\"img\">\n"
+        ++ (told_text 3
+        ++ (style_text
+        ++ codes "<rect class=\"sheet\" y=\"-28\" width=\"210\" height=\"295\"/>\n")) }
     ensures foot { foot_text ≡ codes "</svg>\n" }
     ensures name { row_name_text (codes "step") 80 ≡ codes "<text x=\"4\" y=\"91\">step</text>\n" }
     ensures rule { rule_text 3 96 ≡ codes "<path class=\"grid\" d=\"M112 96h42\"/>\n" }
@@ -98,17 +108,17 @@ pub fn bands()
     ensures values { map (λ line. value_of line (record { filled = 2; mark = 3; limit = 4 }))
         (Filled ∷ Mark ∷ Limit ∷ [])
         ≡ 2 ∷ 3 ∷ 4 ∷ [] }
-    ensures highest { map (λ most. highest most (record { filled = 2; mark = 3; limit = 4 }))
-        (1 ∷ 5 ∷ [])
-        ≡ 4 ∷ 5 ∷ [] }
-    ensures filled { map (highest 1)
-        (record { filled = 4; mark = 3; limit = 2 } ∷ record { filled = 2; mark = 4; limit = 3 }
-        ∷ [])
-        ≡ 4 ∷ 4 ∷ [] }
+    ensures raised { map (λ most. raised most (level 2 3 4)) (level 1 1 1 ∷ level 9 8 7 ∷ [])
+        ≡ level 2 3 4 ∷ level 9 8 7 ∷ [] }
+    ensures highest { map highest (level 2 3 4 ∷ level 4 3 2 ∷ level 2 4 3 ∷ []) ≡ 4 ∷ 4 ∷ 4 ∷ [] }
+    ensures heights { map (level_height 128) (0 ∷ 1 ∷ 6 ∷ 8 ∷ 128 ∷ 129 ∷ [])
+        ≡ 0 ∷ 2 ∷ 2 ∷ 3 ∷ 48 ∷ 48 ∷ [] }
     ensures next { map next_step (4 ∷ 4294967295 ∷ []) ≡ 5 ∷ 4294967295 ∷ [] }
     ensures path { path_text 200 4 (0 ∷ 2 ∷ 2 ∷ 4 ∷ 9 ∷ [])
-        ≡ codes "M112 200H126V176H154V152H168V152H182" }
-    ensures no_level { path_text 200 0 (1 ∷ []) ≡ codes "M112 200H112V200H126" }
+        ≡ codes "M112 200M126 200V176H154V152H168V152H182" }
+    ensures low { path_text 200 128 (1 ∷ 0 ∷ 1 ∷ 0 ∷ [])
+        ≡ codes "M112 200M112 200V198H126V200M140 200V198H154V200M168 200" }
+    ensures no_level { path_text 200 0 (1 ∷ []) ≡ codes "M112 200M112 200V198H126" }
     ensures classes { map class_text (Filled ∷ Mark ∷ Limit ∷ [])
         ≡ codes "filled" ∷ codes "mark" ∷ codes "limit" ∷ [] }
     ensures closed { map (close_text 200) (Filled ∷ Mark ∷ []) ≡ codes "V200Z" ∷ [] ∷ [] }
@@ -117,6 +127,7 @@ pub fn bands()
     ensures names { map (λ band. name_text band 152) (queue_band 4 ∷ group_band 5 ∷ [])
         ≡ codes "<text x=\"4\" y=\"163\">queue 4</text>\n"
         ∷ codes "<text x=\"4\" y=\"163\">buffers 5</text>\n" ∷ [] }
+    ensures peak { peak_text 5 152 ≡ codes "<text x=\"4\" y=\"189\">peak 5</text>\n" }
     ensures range { band_range_text 16 152 ≡ codes "<text x=\"4\" y=\"176\">0 to 16</text>\n" }
     ensures ends { map (lower_end 152) (48 ∷ 4294967295 ∷ []) ≡ 200 ∷ 4294967295 ∷ [] }
     ensures none { bands_text 3 152 (queue_band 0 ∷ []) [] ≡ [] }
@@ -160,6 +171,9 @@ pub fn rows_above()
     ensures command { label_above_text 2
         (stepped (event.Issue EnableDevice) (reply.Issue (Ended 0)))
         ≡ codes "<text transform=\"translate(150 76) rotate(-60)\">enable-device</text>\n" }
+    ensures operand { label_above_text 2
+        (stepped (event.Issue (DrainPasid 5)) (reply.Issue (Ended 0)))
+        ≡ codes "<text transform=\"translate(150 76) rotate(-60)\">drain-pasid 5</text>\n" }
     ensures no_command { map (label_above_text 2)
         (stepped event.Poll (reply.Poll Nothing) ∷ Refused BadCommand ∷ [])
         ≡ [] ∷ [] ∷ [] }
@@ -297,6 +311,25 @@ pub fn engines()
         (record (bar_from 12 None 2 (end_at 5 Abandoned)) { is_batch = true })
         ≡ codes "<title>batch 12 on e1, from step 2 to 5: abandoned</title>" }
     ensures rooms { map name_room (99 ∷ 100 ∷ 9999 ∷ 10000 ∷ []) ≡ 14 ∷ 28 ∷ 28 ∷ 56 ∷ [] }
+    ensures signs_of_fates { map sign_of_fate
+        (Completed 1 ∷ Completed 0 ∷ Completed 2 ∷ Aborted 4 ∷ Abandoned ∷ [])
+        ≡ None ∷ Some Cross ∷ Some Cross ∷ Some Slash ∷ Some Slash ∷ [] }
+    ensures signs_of_ends { map sign_of (None ∷ end_at 5 Abandoned ∷ []) ≡ None ∷ Some Slash ∷ [] }
+    ensures signs { map (λ sign. end_sign_text sign 5 204) (None ∷ Some Cross ∷ Some Slash ∷ [])
+        ≡ [] ∷ codes "<path class=\"sign\" d=\"M176 204l4 4m0-4l-4 4\"/>"
+        ∷ codes "<path class=\"sign\" d=\"M176 204m0 4l4-4\"/>" ∷ [] }
+    ensures room_beside { map
+        (λ name. bar_room (bar_from name None 2 (end_at 5 (Completed 3))))
+        (9 ∷ 10 ∷ 999 ∷ 1000 ∷ [])
+        ≡ 14 ∷ 28 ∷ 28 ∷ 56 ∷ [] }
+    ensures room_alone { map (λ end. bar_room (bar_from 99 None 2 end))
+        (None ∷ end_at 5 (Completed 1) ∷ [])
+        ≡ 14 ∷ 14 ∷ [] }
+    ensures failed_bar { bar_text five_lanes (bar_from 7 None 2 (end_at 4 (Completed 3)))
+        ≡ codes "<g><title>entry 7 on e1, from step 2 to 4: completed 03</title><rect class=\"fa"
+        ++ codes "ilure\" x=\"140\" y=\"200\" width=\"28\" height=\"11\" rx=\"2\"/><text class"
+        ++ codes "=\"label\" x=\"142\" y=\"209\">7</text><path class=\"sign\" d=\"M162 204l4 4m0-"
+        ++ codes "4l-4 4\"/></g>\n" }
     ensures boxed { box_part_text (codes "waits") 2 5 200
         ≡ codes "<rect class=\"waits\" x=\"140\" y=\"200\" width=\"42\" height=\"11\" rx=\"2\"/>" }
     ensures not_boxed { box_part_text (codes "waits") 5 5 200 ≡ [] }
@@ -361,19 +394,23 @@ pub fn engines_of_a_run()
 #[tactic(auto, unfolding(crate::specs::Worked::drawn_on_literals))]
 pub fn levels_and_lines()
     ensures line { line_text 200 4 (queue_band 0) Filled []
-        ≡ codes "<path class=\"filled\" d=\"M112 200H112V200Z\"/>\n" }
+        ≡ codes "<path class=\"filled\" d=\"M112 200M112 200V200Z\"/>\n" }
     ensures mark_line { line_text 200 4 (queue_band 0) Mark []
-        ≡ codes "<path class=\"mark\" d=\"M112 200H112\"/>\n" }
-    ensures band { band_text 3 152 16 (queue_band 4) []
-        ≡ codes "<path class=\"frame\" d=\"M112 152H154V200H112Z\"/>\n<path class=\"filled\" d="
-        ++ codes "\"M112 200H112V200Z\"/>\n<path class=\"mark\" d=\"M112 200H112\"/>\n<path clas"
-        ++ codes "s=\"limit\" d=\"M112 200H112\"/>\n<text x=\"4\" y=\"163\">queue 4</text>\n<tex"
-        ++ codes "t x=\"4\" y=\"176\">0 to 16</text>\n" }
-    ensures two_levels { path_text 200 4 (3 ∷ 1 ∷ []) ≡ codes "M112 200H112V164H126V188H140" }
+        ≡ codes "<path class=\"mark\" d=\"M112 200M112 200\"/>\n" }
+    ensures band { band_text 3 152 (level 5 8 16) (queue_band 4) []
+        ≡ codes "<path class=\"frame\" d=\"M112 152H154V200H112Z\"/>\n<path class=\"filled\" d=\""
+        ++ codes "M112 200M112 200V200Z\"/>\n<path class=\"mark\" d=\"M112 200M112 200\"/>\n<path"
+        ++ codes " class=\"limit\" d=\"M112 200M112 200\"/>\n<text x=\"4\" y=\"163\">queue 4</tex"
+        ++ codes "t>\n<text x=\"4\" y=\"176\">0 to 16</text>\n<text x=\"4\" y=\"189\">peak 5</tex"
+        ++ codes "t>\n" }
+    ensures two_levels { path_text 200 4 (3 ∷ 1 ∷ []) ≡ codes "M112 200M112 200V164H126V188H140" }
     ensures level { map (queue_level_of (standing caps_of_a_run 9 (take 6 records_of_a_run)))
         (0 ∷ 1 ∷ [])
         ≡ record { filled = 1; mark = 8; limit = 16 } ∷ record { filled = 0; mark = 0; limit = 0 }
         ∷ [] }
+    ensures dedicated { map queue_mark
+        (queue_of_a_run ∷ record queue_of_a_run { dedicated = true } ∷ [])
+        ≡ 8 ∷ 0 ∷ [] }
     ensures group { map (group_level_of (standing caps_of_a_run 9 (take 7 records_of_a_run)))
         (0 ∷ 1 ∷ [])
         ≡ record { filled = 1; mark = 0; limit = 32 } ∷ record { filled = 0; mark = 0; limit = 0 }
@@ -436,7 +473,7 @@ pub fn drawn_together()
     ensures levels { map (λ filled. level_with filled 3 4) (Some 2 ∷ None ∷ [])
         ≡ record { filled = 2; mark = 3; limit = 4 } ∷ record { filled = 0; mark = 3; limit = 4 }
         ∷ [] }
-    ensures full_at_one { path_text 200 1 (1 ∷ []) ≡ codes "M112 200H112V152H126" }
+    ensures full_at_one { path_text 200 1 (1 ∷ []) ≡ codes "M112 200M112 200V152H126" }
     ensures first_step { fifth_text 300 1 ≡ [] }
     ensures count { (levels : Vec Level Global)
         → step_count (moments_of_a_batch levels)
@@ -457,6 +494,10 @@ pub fn drawings()
         (queue_band 1 ∷ group_band 0 ∷ group_band 1 ∷ [])
         ≡ (level 1 3 8 ∷ level 4 3 8 ∷ []) ∷ (level 2 4 6 ∷ level 6 4 6 ∷ [])
         ∷ (level 0 0 0 ∷ level 0 0 0 ∷ []) ∷ [] }
+    ensures peaks { (memory : Global)
+        → map (λ band. peaks_of band (moments_with_levels memory))
+        (queue_band 1 ∷ group_band 0 ∷ group_band 1 ∷ [])
+        ≡ level 4 3 8 ∷ level 6 4 6 ∷ level 0 0 0 ∷ [] }
     ensures bands_end { (memory : Global)
         → bands_end 152 (queue_band 0 ∷ queue_band 1 ∷ group_band 0 ∷ [])
         (moments_with_levels memory)
@@ -464,14 +505,15 @@ pub fn drawings()
     ensures bands { (memory : Global)
         → bands_text 2 152 (queue_band 0 ∷ queue_band 1 ∷ group_band 0 ∷ [])
         (moments_with_levels memory)
-        ≡ codes "<path class=\"frame\" d=\"M112 152H140V200H112Z\"/>\n<path class=\"filled\" d="
-        ++ codes "\"M112 200H112V194H126V176H140V200Z\"/>\n<path class=\"mark\" d=\"M112 200H112V"
-        ++ codes "182H140\"/>\n<path class=\"limit\" d=\"M112 200H112V152H140\"/>\n<text x=\"4\" "
-        ++ codes "y=\"163\">queue 1</text>\n<text x=\"4\" y=\"176\">0 to 8</text>\n<path class=\""
-        ++ codes "frame\" d=\"M112 208H140V256H112Z\"/>\n<path class=\"filled\" d=\"M112 256H112V"
-        ++ codes "240H126V208H140V256Z\"/>\n<path class=\"mark\" d=\"M112 256H112V224H140\"/>\n<p"
-        ++ codes "ath class=\"limit\" d=\"M112 256H112V208H140\"/>\n<text x=\"4\" y=\"219\">buffe"
-        ++ codes "rs 0</text>\n<text x=\"4\" y=\"232\">0 to 6</text>\n" }
+        ≡ codes "<path class=\"frame\" d=\"M112 152H140V200H112Z\"/>\n<path class=\"filled\" d=\""
+        ++ codes "M112 200M112 200V194H126V176H140V200Z\"/>\n<path class=\"mark\" d=\"M112 200M11"
+        ++ codes "2 200V182H140\"/>\n<path class=\"limit\" d=\"M112 200M112 200V152H140\"/>\n<tex"
+        ++ codes "t x=\"4\" y=\"163\">queue 1</text>\n<text x=\"4\" y=\"176\">0 to 8</text>\n<tex"
+        ++ codes "t x=\"4\" y=\"189\">peak 4</text>\n<path class=\"frame\" d=\"M112 208H140V256H1"
+        ++ codes "12Z\"/>\n<path class=\"filled\" d=\"M112 256M112 256V240H126V208H140V256Z\"/>\n"
+        ++ codes "<path class=\"mark\" d=\"M112 256M112 256V224H140\"/>\n<path class=\"limit\" d="
+        ++ codes "\"M112 256M112 256V208H140\"/>\n<text x=\"4\" y=\"219\">buffers 0</text>\n<text"
+        ++ codes " x=\"4\" y=\"232\">0 to 6</text>\n<text x=\"4\" y=\"245\">peak 6</text>\n" }
     ensures steps { (memory : Global)
         → step_count (replicate 1024 (moment_of_a_device memory))
         ≡ 1024 }
@@ -483,32 +525,35 @@ pub fn drawings()
         ≡ 273 }
     ensures story { (memory : Global)
         → drawing_text (story memory)
-        ≡ codes "<svg xmlns=\"http://www.w3.org/2000/svg\" width=\"210\" height=\"273\" viewBox=\"0"
-        ++ codes " 0 210 273\">\n"
-        ++ (style_text ++ codes "<rect class=\"sheet\" width=\"210\" height=\"273\"/>\n<path class="
-        ++ codes "\"grid\" d=\"M112 80v193\"/>\n<text x=\"114\" y=\"91\">0</text>\n<rect class="
-        ++ codes "\"column\" x=\"112\" y=\"80\" width=\"14\" height=\"193\"><title>step 0: dispa"
-        ++ codes "tch e0: idle</title></rect>\n<rect class=\"column\" x=\"126\" y=\"80\" width="
-        ++ codes "\"14\" height=\"193\"><title>step 1: fetch e1 fill 0 bytes: fetched 0</title><"
-        ++ codes "/rect>\n<rect class=\"column\" x=\"140\" y=\"80\" width=\"14\" height=\"193\">"
-        ++ codes "<title>step 2: fetch e2 fill 0 bytes: fetched 1</title></rect>\n<text x=\"4\" "
-        ++ codes "y=\"91\">step</text>\n<text x=\"4\" y=\"107\">clients</text>\n<text x=\"4\" y="
-        ++ codes "\"123\">administrator</text>\n<text x=\"4\" y=\"139\">fates</text>\n<path clas"
-        ++ codes "s=\"grid\" d=\"M112 96h42\"/>\n<path class=\"grid\" d=\"M112 112h42\"/>\n<path"
-        ++ codes " class=\"grid\" d=\"M112 128h42\"/>\n<g><title>step 2\nfate 0 7 completed 01\n"
-        ++ codes "</title><rect class=\"column\" x=\"140\" y=\"128\" width=\"14\" height=\"16\"/"
-        ++ codes "><circle class=\"done\" cx=\"147\" cy=\"136\" r=\"3\"/>\n</g>\n<path class=\"f"
-        ++ codes "rame\" d=\"M112 152H154V200H112Z\"/>\n<path class=\"filled\" d=\"M112 200H112V"
-        ++ codes "188H126V176H140V188H154V200Z\"/>\n<path class=\"mark\" d=\"M112 200H112V164H15"
-        ++ codes "4\"/>\n<path class=\"limit\" d=\"M112 200H112V152H154\"/>\n<text x=\"4\" y=\"1"
-        ++ codes "63\">queue 0</text>\n<text x=\"4\" y=\"176\">0 to 4</text>\n<text x=\"4\" y=\""
-        ++ codes "219\">engine 0</text>\n<circle class=\"wait\" cx=\"119\" cy=\"216\" r=\"3\"/>"
-        ++ codes "\n<path class=\"grid\" d=\"M112 230h42\"/>\n<text x=\"4\" y=\"245\">engine 1</"
-        ++ codes "text>\n<circle class=\"done\" cx=\"133\" cy=\"242\" r=\"3\"/>\n<g><title>entry"
-        ++ codes " 0 on e1, member of batch 7, from step 1 to 2: completed 01</title><rect class"
-        ++ codes "=\"waits\" x=\"126\" y=\"252\" width=\"14\" height=\"11\" rx=\"2\"/><text clas"
-        ++ codes "s=\"label\" x=\"128\" y=\"261\">0</text></g>\n<path class=\"grid\" d=\"M112 26"
-        ++ codes "9h42\"/>\n</svg>\n") }
+        ≡ codes "<svg xmlns=\"http://www.w3.org/2000/svg\" width=\"210\" height=\"469\" viewBox=\"0"
+        ++ codes " -28 210 469\" role=\"img\">\n<title>Run of 3 steps</title>\n"
+        ++ (description_text
+        ++ (style_text
+        ++ codes "<rect class=\"sheet\" y=\"-28\" width=\"210\" height=\"469\"/>\n<path class="
+        ++ codes "\"grid\" d=\"M112 80v193\"/>\n<text x=\"114\" y=\"91\">0</text>\n<rect class=\"co"
+        ++ codes "lumn\" x=\"112\" y=\"80\" width=\"14\" height=\"193\"><title>step 0: dispatch e0:"
+        ++ codes " idle</title></rect>\n<rect class=\"column\" x=\"126\" y=\"80\" width=\"14\" heig"
+        ++ codes "ht=\"193\"><title>step 1: fetch e1 fill 0 bytes: fetched 0</title></rect>\n<rect "
+        ++ codes "class=\"column\" x=\"140\" y=\"80\" width=\"14\" height=\"193\"><title>step 2: fe"
+        ++ codes "tch e2 fill 0 bytes: fetched 1</title></rect>\n<text x=\"4\" y=\"91\">step</text>"
+        ++ codes "\n<text x=\"4\" y=\"107\">clients</text>\n<text x=\"4\" y=\"123\">administrator</"
+        ++ codes "text>\n<text x=\"4\" y=\"139\">fates</text>\n<path class=\"grid\" d=\"M112 96h42"
+        ++ codes "\"/>\n<path class=\"grid\" d=\"M112 112h42\"/>\n<path class=\"grid\" d=\"M112 128"
+        ++ codes "h42\"/>\n<g><title>step 2\nfate 0 7 completed 01\n</title><rect class=\"column\" "
+        ++ codes "x=\"140\" y=\"128\" width=\"14\" height=\"16\"/><circle class=\"done\" cx=\"147\""
+        ++ codes " cy=\"136\" r=\"3\"/>\n</g>\n<path class=\"frame\" d=\"M112 152H154V200H112Z\"/>"
+        ++ codes "\n<path class=\"filled\" d=\"M112 200M112 200V188H126V176H140V188H154V200Z\"/>\n<"
+        ++ codes "path class=\"mark\" d=\"M112 200M112 200V164H154\"/>\n<path class=\"limit\" d=\"M"
+        ++ codes "112 200M112 200V152H154\"/>\n<text x=\"4\" y=\"163\">queue 0</text>\n<text x=\"4"
+        ++ codes "\" y=\"176\">0 to 4</text>\n<text x=\"4\" y=\"189\">peak 2</text>\n<text x=\"4\" "
+        ++ codes "y=\"219\">engine 0</text>\n<circle class=\"wait\" cx=\"119\" cy=\"216\" r=\"3\"/>"
+        ++ codes "\n<path class=\"grid\" d=\"M112 230h42\"/>\n<text x=\"4\" y=\"245\">engine 1</tex"
+        ++ codes "t>\n<circle class=\"done\" cx=\"133\" cy=\"242\" r=\"3\"/>\n<g><title>entry 0 on "
+        ++ codes "e1, member of batch 7, from step 1 to 2: completed 01</title><rect class=\"waits"
+        ++ codes "\" x=\"126\" y=\"252\" width=\"14\" height=\"11\" rx=\"2\"/><text class=\"label\""
+        ++ codes " x=\"128\" y=\"261\">0</text></g>\n<path class=\"grid\" d=\"M112 269h42\"/>\n<g t"
+        ++ codes "ransform=\"translate(0 273)\">\n"
+        ++ (shapes_text ++ codes "</g>\n</svg>\n"))) }
 {}
 
 /// Bars of an engine whose number is not that of a step, a name or a cell, of one batch of two, and

@@ -1,7 +1,7 @@
 -- An event in words.
 use Rattle.dsa_book.specs.declared.event.Event.TheVariants as event
 use Rattle.dsa_regs.specs.declared.layout.ListUse.TheVariants as list
-use Rattle.std.specs.Prelude.{ℕ, false, ◌==◌, if◌then◌else◌, List, [], ◌++◌, option_map, unwrap_or}
+use Rattle.std.specs.Prelude.{ℕ, Bool, true, false, ◌==◌, if◌then◌else◌, List, [], ◌++◌, option_map, unwrap_or}
 use Rattle.std.specs.Prelude.{codes, decimal}
 use Rattle.std.specs.Fmt.{digits}
 use Rattle.dsa_desc.specs.declared.{Descriptor.{Descriptor}, Outcome.{Outcome, TheVariants.{Success, PageFault}}}
@@ -22,6 +22,12 @@ one_or_many n one many = if n == 1 then one else many
 -- a text, a number, and what is counted: `1 entry`, `2 entries`
 abbrev pub count_text : List ℕ → ℕ → List ℕ → List ℕ → List ℕ
 count_text before n one many = before ++ decimal n ++ codes " " ++ one_or_many n one many
+
+-- ---- truth values (profile)
+
+abbrev pub truth_text : Bool → List ℕ
+truth_text true = codes "true"
+truth_text false = codes "false"
 
 -- ---- descriptors (profile)
 

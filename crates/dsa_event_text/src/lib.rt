@@ -14,6 +14,7 @@ mod lists;
 mod numbers;
 mod phases;
 pub mod rows;
+mod truths;
 
 /// What comes of adding to a text, which may want memory.
 pub type Added = Result<(), AllocError>;
@@ -24,3 +25,4 @@ pub use events::{add_event, portal_label};
 pub use lists::add_list;
 pub use numbers::{add_count, add_number, one_or_many};
 pub use phases::phase_word;
+pub use truths::truth_text;

@@ -1,6 +1,6 @@
 //! Worked events: what the definitions say of chosen ones, by computation.
 
-ghost use Rattle.std.specs.Prelude.{◌≡◌, [], ◌∷◌, codes, map};
+ghost use Rattle.std.specs.Prelude.{◌≡◌, [], ◌∷◌, codes, map, true, false};
 ghost use Rattle.dsa_desc.specs.declared.Outcome.TheVariants.{Success, PageFault};
 ghost use Rattle.dsa_regs.specs.declared.Command.TheVariants.{EnableDevice, DisableDevice, DrainAll, AbortAll, ResetDevice, EnableWq, DisableWq, DrainWq, AbortWq, ResetWq, DrainPasid, AbortPasid};
 ghost use Rattle.dsa_regs.specs.declared.Phase.TheVariants.{Off, On, Stopping};
@@ -9,7 +9,7 @@ ghost use Rattle.dsa_regs.specs.Config.{zero_queue, zero_group};
 ghost use Rattle.dsa_book.specs.declared.event.Event.TheVariants.{Submit, Dispatch, Fetch, Start, Finish, Issue, Poll, WriteQueue, WriteGroup, ClearError};
 ghost use Rattle.dsa_book.specs.declared.event.Kind.TheVariants.{Enqcmd, Movdir64b};
 ghost use Rattle.dsa_book.specs.declared.event.Portal.TheVariants.{Limited, Unlimited};
-ghost use Rattle.dsa_event_text.specs.Text.{command_with_operand, count_text, descriptor_text, event_text, list_text, phase_word};
+ghost use Rattle.dsa_event_text.specs.Text.{command_with_operand, count_text, descriptor_text, event_text, list_text, phase_word, truth_text};
 ghost use Rattle.dsa_event_text.specs.Worked.{desc, mask, page_move, event_ticket};
 
 /// What is counted is singular after 1 alone.
@@ -33,6 +33,11 @@ pub fn lists()
 pub fn phases()
     ensures { map phase_word (Off ∷ On ∷ Stopping ∷ [])
         ≡ codes "off" ∷ codes "on" ∷ codes "stopping" ∷ [] }
+{}
+
+/// Truth values.
+pub fn truths()
+    ensures { map truth_text (true ∷ false ∷ []) ≡ codes "true" ∷ codes "false" ∷ [] }
 {}
 
 /// Descriptors: the operation, the size where it counts, and the fence.

@@ -207,6 +207,8 @@ pub fn gone()
         ≡ Some (codes ": no entry has the name 0") }
     ensures free_cell { told (take 3 forged_tickets) (finished 0 (ticket 1 0) Gone)
         ≡ Some (codes ": the cell of the ticket holds no entry") }
+    ensures later_are_gone { told two_members_fail (finished 0 (ticket 1 0) Gone)
+        ≡ Some (codes ": the cell of the ticket holds no entry") }
     ensures other_cell { told (take 2 abort_of_a_pasid) (finished 0 (ticket 0 1) Gone)
         ≡ Some (codes ": the cell of the ticket holds 0 by now") }
     ensures no_engine { told (take 3 old_ticket_is_gone) (finished 2 (ticket 0 0) Gone)

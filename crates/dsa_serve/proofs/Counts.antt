@@ -1,5 +1,5 @@
 -- What calls one after the other did to a reader and to a writer.
-use Rattle.std.proofs.Common.{◌≡◌, ◌≢◌, ◌⊎◌, ◌+◌, ◌<◌, ◌^◌, ℕ, Bool, List, ◌++◌, Option, Result, Ok, Err, IfErr, arith}
+use Rattle.std.proofs.Common.{◌≡◌, ◌≢◌, ◌⊎◌, ◌+◌, ℕ, Bool, List, ◌++◌, Option, Result, Ok, Err, IfErr, arith}
 use Rattle.std.proofs.Common.{length-append, inl, inr, refl, ap, ◌∙◌}
 use Rattle.dsa_scenario.specs.declared.counted.CountedReader.{CountedReader}
 use Rattle.dsa_scenario.specs.declared.faults.ScenarioFault.{ScenarioFault, TheVariants.{Read, TooLong, Write}}

@@ -1,4 +1,5 @@
 pub mod Asking
+pub mod FirstFaults
 pub mod Sessions
 pub mod Lines
 pub mod Courses

@@ -14,11 +14,10 @@ use Rattle.dsa_scenario.specs.declared.faults.ScenarioFault.{ScenarioFault, TheV
 use Rattle.dsa_scenario.specs.declared.faults.ScenarioFault.TheVariants.{TooLong, NotJson, BadDocument, BadStep}
 use Rattle.dsa_scenario.specs.declared.faults.ScenarioFault.TheVariants.{Differs}
 use Rattle.dsa_scenario.specs.declared.faults.ScenarioFault.TheVariants.{BadCaps, BadCapacity}
-use Rattle.dsa_scenario.specs.Document.{IsFaultOf}
 use Rattle.dsa_serve.specs.declared.dialogue.Dialogue.{Dialogue}
 use Rattle.dsa_serve.specs.Input.{IsLine, IsFront, HasFirst}
 use Rattle.dsa_serve.specs.Dialogue.{IsDialogueEnded, AnswersWhole, AnswersAll, IsServing, IsInCourse}
-use Rattle.dsa_serve.specs.Dialogue.{IsStoppedWithin, IsStopped}
+use Rattle.dsa_serve.specs.Dialogue.{IsFaultOfFirst, IsStoppedWithin, IsStopped}
 use Rattle.dsa_serve.proofs.{Courses.{whole_answered}, Lines.{front_cut}}
 
 -- a first part and the front of a second are a front of both
@@ -40,7 +39,7 @@ front_more input first behind bytes front =
 -- so far the dialogue has read these bytes behind the first line, and answered their whole lines
 abbrev Serves : {S : Type 0} → List ℕ → List ℕ → List ℕ → Dialogue S → Type 0
 Serves first behind output d =
-    IsServing first behind output d.session.number d.session.device d.session.tickets.items d.kept.items
+    IsServing first behind output d.session.number d.session.device d.session.tickets.items d.session.told d.kept.items
 
 -- what a read and its answers make of a dialogue
 abbrev pub Advances : {S : Type 0} → List ℕ → List ℕ → Dialogue S → Dialogue S → Type 0
@@ -68,8 +67,8 @@ course_on had left left' held holds holds' bytes text d d' reads writes on h = r
 pub course_answered : {S : Type 0} (ended : Bool) (had left held holds : Option (List ℕ)) (d : Dialogue S)
     → (h : IsInCourse ended had left held holds d) → AnswersWhole ended h.input h.output
 course_answered ended had left held holds d h =
-    whole_answered h.first h.behind h.output d.session.number d.session.device d.session.tickets.items d.kept.items ended
-    h.input h.line h.short h.front h.serving
+    whole_answered h.first h.behind h.output d.session.number d.session.device d.session.tickets.items d.session.told
+    d.kept.items ended h.input h.line h.short h.front h.serving
 
 -- an error of the reader
 pub read_stops : {S : Type 0} (had left left' held holds : Option (List ℕ)) (d : Dialogue S) → Keeps left left'
@@ -132,7 +131,7 @@ write_stops had left left' held holds holds' bytes text count d d' reads less wr
       length h.output + count,
       Consumes-trans had left left' h.input bytes h.read reads,
       inl (whole_answered h.first (h.behind ++ bytes) (h.output ++ text) d'.session.number d'.session.device
-          d'.session.tickets.items d'.kept.items false (h.input ++ bytes) h.line h.short
+          d'.session.tickets.items d'.session.told d'.kept.items false (h.input ++ bytes) h.line h.short
           (front_more h.input h.first h.behind bytes h.front) (on h.first h.behind h.output h.serving)),
       cut.0,
       cut.1,
@@ -222,12 +221,12 @@ behind_few room true input first behind front few =
 module _ (room : ℕ) (had left held : Option (List ℕ)) (input first behind : List ℕ) (ended : Bool)
     (reads : Consumes had left input) (split : HasFirst ended input first behind)
     (at_end : ended ≡ true → IsAtEnd left) (less : length behind ≤ room) where
-  fault_stops : (e : ScenarioFault) → IsFaultOf first e → IsStoppedWithin room e had left held held
-  fault_stops Read h = absurd h
-  fault_stops TooLong h = absurd h
-  fault_stops Write h = absurd h
-  fault_stops (Differs i) h = absurd h
-  fault_stops OutOfMemory h = absurd h
+  fault_stops : (e : ScenarioFault) → IsFaultOfFirst first e → IsStoppedWithin room e had left held held
+  fault_stops Read h = absurd h.0
+  fault_stops TooLong h = absurd h.0
+  fault_stops Write h = absurd h.0
+  fault_stops (Differs i) h = absurd h.0
+  fault_stops OutOfMemory h = absurd h.0
   fault_stops NotJson h = (input, first, behind, ended, reads, split, at_end, less, h, Appends-nil held)
   fault_stops BadDocument h = (input, first, behind, ended, reads, split, at_end, less, h, Appends-nil held)
   fault_stops (BadStep i) h = (input, first, behind, ended, reads, split, at_end, less, h, Appends-nil held)
@@ -238,7 +237,7 @@ module _ (room : ℕ) (had left held : Option (List ℕ)) (input first behind : 
 pub opening_stops : (room : ℕ) (had left held : Option (List ℕ)) (input first behind : List ℕ) (ended : Bool)
     (e : ScenarioFault)
     → Consumes had left input → IsLine first → length first ≤ 2 ^ 20 → IsFront ended input first behind
-    → (ended ≡ false → length behind < room) → (ended ≡ true → IsAtEnd left) → (e ≡ OutOfMemory) ⊎ IsFaultOf first e
+    → (ended ≡ false → length behind < room) → (ended ≡ true → IsAtEnd left) → (e ≡ OutOfMemory) ⊎ IsFaultOfFirst first e
     → IsStoppedWithin room e had left held held
 opening_stops room had left held input first behind false e reads line short front few at_end (inl h) =
     let split : input ≡ first ++ 10 ∷ behind = front ∙ append_assoc first (10 ∷ []) behind in
@@ -303,19 +302,19 @@ long_stops room had left held first reads line long few =
 
 -- a write that is refused of the answers to the first line and to the lines that came with it
 pub first_write_stops : (had left held holds : Option (List ℕ)) (ended : Bool) (input first behind text seen : List ℕ)
-    (count number : ℕ) (now : Running) (tickets : List Ticket) (kept : List ℕ) → Consumes had left input → IsLine first
-    → length first ≤ 2 ^ 20 → IsFront ended input first behind → (ended ≡ true → IsAtEnd left)
-    → seen ≡ text → IsServing first behind text number now tickets kept → count < length seen
+    (count number : ℕ) (now : Running) (tickets : List Ticket) (told : ℕ) (kept : List ℕ) → Consumes had left input
+    → IsLine first → length first ≤ 2 ^ 20 → IsFront ended input first behind → (ended ≡ true → IsAtEnd left)
+    → seen ≡ text → IsServing first behind text number now tickets told kept → count < length seen
     → Appends held holds (take count seen) → IsStopped Write had left held holds
-first_write_stops had left held holds false input first behind text seen count number now tickets kept reads line short
-    front at_end same serving less writes =
+first_write_stops had left held holds false input first behind text seen count number now tickets told kept reads line
+    short front at_end same serving less writes =
     let whole : AnswersWhole false input seen =
-    rw same (whole_answered first behind text number now tickets kept false input line short front serving) in
+    rw same (whole_answered first behind text number now tickets told kept false input line short front serving) in
     (input, seen, count, reads, inl whole, less, writes)
-first_write_stops had left held holds true input first behind text seen count number now tickets kept reads line short
-    front at_end same serving less writes =
+first_write_stops had left held holds true input first behind text seen count number now tickets told kept reads line
+    short front at_end same serving less writes =
     let whole : AnswersWhole true input seen =
-    rw same (whole_answered first behind text number now tickets kept true input line short front serving) in
+    rw same (whole_answered first behind text number now tickets told kept true input line short front serving) in
     (input, seen, count, reads, inr (inl (at_end refl, whole)), less, writes)
 
 -- two things that are told of an error

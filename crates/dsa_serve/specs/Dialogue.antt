@@ -1,39 +1,58 @@
 -- A dialogue: what is answered to an input, and how far that is written.
 use Rattle.std.specs.Prelude.{◌≡◌, ◌⊎◌, ◌≤◌, ◌<◌, ◌+◌, ℕ, ◌^◌, Bool, true, false, List, [], ◌++◌, flat_map}
 use Rattle.std.specs.Prelude.{length, map, take, Option, Some}
+use Rattle.serde_json.specs.Data.{Data}
 use Rattle.std.specs.Io.KnownBytes.{Consumes, IsAtEnd, Appends}
 use Rattle.dsa_regs.specs.declared.Caps.{Caps}
 use Rattle.dsa_book.specs.{declared.answer.Ticket.{Ticket}, State.{State}, Machine.{is_run, replay, stored_steps}}
-use Rattle.dsa_device.specs.Running.{Running}
+use Rattle.dsa_device.specs.Running.{Running, running_at_first}
 use Rattle.dsa_scenario.specs.declared.{actions.Action.{Action}, run.Record.{Record}}
 use Rattle.dsa_scenario.specs.declared.faults.ScenarioFault.{ScenarioFault}
-use Rattle.dsa_scenario.specs.declared.faults.ScenarioFault.TheVariants.{Read, TooLong, Write, OutOfMemory}
-use Rattle.dsa_scenario.specs.{Document.{IsDocument, IsOpenable, IsFaultOf}, Lines.{line_of_text, row_text}}
+use Rattle.dsa_scenario.specs.declared.faults.ScenarioFault.TheVariants.{Read, TooLong, Write, OutOfMemory, BadStep}
+use Rattle.dsa_scenario.specs.{Document.{HasHead, IsOpenable}, Lines.{line_of_text, row_text}}
 use Rattle.dsa_scenario.specs.{Run.{steps_of_records, AreOf}, Steps.{visits}}
-use Rattle.dsa_serve.specs.declared.{dialogue.Dialogue.{Dialogue}, requests.Request.{Request, TheVariants.{Step}}}
-use Rattle.dsa_serve.specs.Requests.{AreAsked, actions_of}
-use Rattle.dsa_serve.specs.Answers.{answers, IsSessionTo}
+use Rattle.dsa_conform.specs.{Seen.{Seen}, Run.{AreRead, IsUnread, IsOtherFault}}
+use Rattle.dsa_serve.specs.declared.dialogue.Dialogue.{Dialogue}
+use Rattle.dsa_serve.specs.Requests.{Request, step_request, AreAsked, actions_of, observed_of}
+use Rattle.dsa_serve.specs.Answers.{answers, AreClosest, IsSessionTo}
 use Rattle.dsa_serve.specs.Input.{IsLine, AreLines, with_rest, IsFront, HasFirst}
 
+-- the bytes are a JSON value with these caps and this capacity, and its step objects ask this, one each in order, and
+-- say that this was seen (profile)
+pub record IsObservedDocument (bytes : List ℕ) (caps : Caps) (capacity : ℕ) (observed : List (Action × Seen))
+    : Type 0 where
+  pub steps : List Data
+  pub head : HasHead bytes caps capacity steps
+  pub read : AreRead steps observed
+
+-- the faults of a document, where an object of it that says wrongly what was seen is no step object (profile)
+abbrev pub IsFaultOfFirst : List ℕ → ScenarioFault → Type 0
+IsFaultOfFirst bytes (BadStep i) = IsUnread bytes i
+IsFaultOfFirst bytes fault = IsOtherFault bytes fault
+
 -- the steps of a document, and then what lines ask
-abbrev pub from_document : List Action → List Request → List Request
-from_document actions requests = map Step actions ++ requests
+abbrev pub from_document : List (Action × Seen) → List Request → List Request
+from_document observed requests = map step_request observed ++ requests
 
 -- the first line is a document without a fault, and the output answers its steps and these lines: of those
--- that are steps the records are a run of a new device, which comes to this state (profile)
+-- that are steps the records are a run of a new device, which comes to this state, and show what was seen unless
+-- nothing shows it that the device may answer (profile)
 pub record IsDialogue (first : List ℕ) (lines : List (List ℕ)) (last : State) (output : List ℕ) : Type 0 where
   pub caps : Caps
   pub capacity : ℕ
-  pub actions : List Action
+  pub observed : List (Action × Seen)
   pub requests : List Request
   pub records : List Record
-  pub document : IsDocument first caps capacity actions
+  pub document : IsObservedDocument first caps capacity observed
   pub opening : IsOpenable caps capacity
   pub asked : AreAsked lines requests
-  pub of_actions : AreOf [] (actions_of (from_document actions requests)) records
+  pub of_actions : AreOf [] (actions_of (from_document observed requests)) records
   pub run : is_run caps capacity (steps_of_records records) ≡ true
   pub replayed : replay caps (stored_steps (steps_of_records records)) ≡ Some last
-  pub answered : output ≡ answers (from_document actions requests) (visits caps capacity [] records)
+  pub closest : AreClosest (running_at_first caps capacity) (observed_of (from_document observed requests))
+      (visits caps capacity [] records)
+  pub answered : output ≡ answers (running_at_first caps capacity) 0 (from_document observed requests)
+      (visits caps capacity [] records)
 
 -- the output answers all whole lines of the input, and no more; where the end of the input `ended` the first line,
 -- that one alone (profile)
@@ -79,20 +98,20 @@ AnswersOnlyLine left input output = IsAtEnd left × AnswersWhole true input outp
 
 -- so far a session that began with this line has read these bytes behind it and answered their whole
 -- lines; of the rest of a line it keeps as much as shows whether it is too long (profile)
-pub record IsServing (first behind output : List ℕ) (number : ℕ) (now : Running) (tickets : List Ticket)
+pub record IsServing (first behind output : List ℕ) (number : ℕ) (now : Running) (tickets : List Ticket) (told : ℕ)
     (kept : List ℕ) : Type 0 where
   pub lines : List (List ℕ)
   pub rest : List ℕ
   pub caps : Caps
   pub capacity : ℕ
-  pub actions : List Action
+  pub observed : List (Action × Seen)
   pub requests : List Request
   pub lines_are : AreLines behind lines rest
   pub keeps : kept ≡ take (2 ^ 20 + 1) rest
-  pub document : IsDocument first caps capacity actions
+  pub document : IsObservedDocument first caps capacity observed
   pub opening : IsOpenable caps capacity
   pub asked : AreAsked lines requests
-  pub session : IsSessionTo caps capacity (from_document actions requests) number now tickets output
+  pub session : IsSessionTo caps capacity (from_document observed requests) number now tickets told output
 
 -- since the reader had these bytes and the writer held those, a session has answered the whole lines of what the
 -- reader gave, and the writer has taken the answers; the first line ended with its line feed, or with the input
@@ -109,7 +128,7 @@ pub record IsInCourse {S : Type 0} (ended : Bool) (had left held holds : Option 
   pub short : length first ≤ 2 ^ 20
   pub front : IsFront ended input first behind
   pub serving : IsServing first behind output dialogue.session.number dialogue.session.device
-      dialogue.session.tickets.items dialogue.kept.items
+      dialogue.session.tickets.items dialogue.session.told dialogue.kept.items
 
 -- ---- where it stopped
 
@@ -139,7 +158,7 @@ IsStoppedWithin room OutOfMemory had left held holds =
 IsStoppedWithin room fault had left held holds =
     (input : List ℕ) × (first : List ℕ) × (behind : List ℕ) × (ended : Bool) × Consumes had left input
     × HasFirst ended input first behind × (ended ≡ true → IsAtEnd left) × (length behind ≤ room)
-    × IsFaultOf first fault × Appends held holds []
+    × IsFaultOfFirst first fault × Appends held holds []
 
 -- a dialogue in its course, whose reader has this left and whose writer holds this, goes on, and has and holds that
 -- (profile)

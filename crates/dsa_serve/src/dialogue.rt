@@ -34,10 +34,12 @@ impl<S: EntryStore> Dialogue<S> {
             (IsLine piece.now
             → (first : List ℕ) (behind : List ℕ) (written : List ℕ)
             → IsServing first behind (written ++ string_bytes text.old) self.old.session.number
-            self.old.session.device self.old.session.tickets.items self.old.kept.items
+            self.old.session.device self.old.session.tickets.items self.old.session.told
+            self.old.kept.items
             → IsServing first (behind ++ piece.now ++ 10 ∷ [])
             (written ++ string_bytes text.new) self.new.session.number
-            self.new.session.device self.new.session.tickets.items self.new.kept.items) }
+            self.new.session.device self.new.session.tickets.items self.new.session.told
+            self.new.kept.items) }
     {
         keep(&mut self.kept, piece)?;
         self.session.answer(alloc, text, &self.kept)?;
@@ -50,10 +52,11 @@ impl<S: EntryStore> Dialogue<S> {
         ensures { OnOk result
             ((first : List ℕ) (behind : List ℕ) (written : List ℕ)
             → IsServing first behind (written ++ string_bytes text.old) self.old.session.number
-            self.old.session.device self.old.session.tickets.items self.old.kept.items
+            self.old.session.device self.old.session.tickets.items self.old.session.told
+            self.old.kept.items
             → IsServing first (behind ++ bytes.now) (written ++ string_bytes text.new)
             self.new.session.number self.new.session.device self.new.session.tickets.items
-            self.new.kept.items) }
+            self.new.session.told self.new.kept.items) }
     {
         let mut rest = bytes;
         'lines: while let Some(at) = memchr(b'\n', rest) {
@@ -69,7 +72,8 @@ impl<S: EntryStore> Dialogue<S> {
         ensures { OnOk result
             ((first : List ℕ) (behind : List ℕ) (written : List ℕ)
             → IsServing first behind (written ++ string_bytes text.old) self.old.session.number
-            self.old.session.device self.old.session.tickets.items self.old.kept.items
+            self.old.session.device self.old.session.tickets.items self.old.session.told
+            self.old.kept.items
             → IsDialogueEnded first behind (written ++ string_bytes text.new)) }
     {
         if !self.kept.is_empty() {

@@ -1,5 +1,5 @@
-//! A dialogue: a document in the first line, and a step a line behind it, each answered before more
-//! is read.
+//! A dialogue: a document in the first line, and a request a line behind it, each answered before
+//! more is read.
 //!
 //! `docs/COMMANDS.md` describes lines and answers.
 #![tactic(auto)]
@@ -15,6 +15,6 @@ mod session;
 pub use dialogue::Dialogue;
 pub use front::{Front, read_first};
 pub use opening::begin;
-pub use requests::{LineFault, MAX_LINE, Request, parse_request};
+pub use requests::{Line, LineFault, MAX_LINE, parse_line};
 pub use serving::{serve_counted, serve_watched};
 pub use session::Session;

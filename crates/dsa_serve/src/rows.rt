@@ -1,6 +1,7 @@
 //! Worked lines and answers: what the definitions say at chosen values, by computation.
 
-ghost use Rattle.std.specs.Prelude.{◌≡◌, ◌<◌, ℕ, Option, Some, List, [], ◌∷◌, ◌++◌, ◌+◌, Bool, true, false, length, min, codes};
+ghost use Rattle.std.specs.Prelude.{◌≡◌, ◌<◌, ℕ, Option, Some, List, [], ◌∷◌, ◌++◌, ◌+◌, Bool, true, false, length, map, min, codes};
+ghost use Rattle.serde_json.specs.Data.{string};
 ghost use Rattle.dsa_regs.specs.declared.Fault.TheVariants.{BadCommand};
 ghost use Rattle.dsa_book.specs.declared.event.Event.TheVariants.{Poll};
 ghost use Rattle.dsa_book.specs.State.{State, opening};
@@ -9,24 +10,40 @@ ghost use Rattle.dsa_device.specs.Running.{Running, running_at_first};
 ghost use Rattle.dsa_scenario.specs.declared.actions.Action.TheVariants.{Ask, Refuse};
 ghost use Rattle.dsa_scenario.specs.declared.faults.ScenarioFault.{ScenarioFault};
 ghost use Rattle.dsa_scenario.specs.declared.faults.ScenarioFault.TheVariants as late;
-ghost use Rattle.dsa_scenario.specs.Document.{IsDocument, IsNoJson};
+ghost use Rattle.dsa_scenario.specs.Document.{IsNoJson};
 ghost use Rattle.dsa_scenario.specs.Lines.{line_of_text};
-ghost use Rattle.dsa_scenario.specs.Steps.{visits};
+ghost use Rattle.dsa_scenario.specs.Steps.{visit, visits};
+ghost use Rattle.dsa_scenario.specs.Worked.{actions_of_a_submission, records_of_a_run, records_of_a_submission};
 ghost use Rattle.dsa_scenario.specs.Worked.{object_of, poll_step, step_of_kind, whole, smallest_caps, smallest_caps_text, no_caps_text, document_text, caps_of_a_run, actions_of_a_run, lines_of_a_run};
 ghost use Rattle.dsa_serve.specs.declared.dialogue.Dialogue.{Dialogue};
 ghost use Rattle.dsa_serve.specs.declared.requests.LineFault.TheVariants.{NotJson, NoStep, TooLong};
-ghost use Rattle.dsa_serve.specs.declared.requests.Request.TheVariants.{Step, Explain, Fault};
+ghost use Rattle.dsa_serve.specs.Requests.{Step, Explain, Show, Fates, Fault};
 ghost use Rattle.dsa_serve.specs.Requests.{request_of, actions_of, IsRead, Asks, AreAsked};
-ghost use Rattle.dsa_serve.specs.Answers.{answers, line_fault_text, AreRequestsAnswered};
+ghost use Rattle.dsa_serve.specs.Answers.{answers, difference, new_fates_text, line_fault_text, fates_told_after};
+ghost use Rattle.dsa_serve.specs.Answers.{AreClosest, AreRequestsAnswered};
 ghost use Rattle.dsa_serve.specs.Input.{IsLine, AreLines, with_rest, IsFront, HasFirst};
-ghost use Rattle.dsa_serve.specs.Dialogue.{from_document, IsLate, IsDialogue, IsDialogueEnded, AnswersWhole, AnswersAll, AnswersSoFar, AnswersOnlyLine, IsServing, IsInCourse, IsStopped};
-ghost use Rattle.dsa_serve.specs.Worked.{explain_around, requests_of_a_dialogue, records_of_a_dialogue, lines_of_a_dialogue, poll_line, explained_poll_line, first_line};
+ghost use Rattle.dsa_serve.specs.Dialogue.{from_document, IsObservedDocument, IsLate, IsDialogue, IsDialogueEnded, AnswersWhole, AnswersAll, AnswersSoFar, AnswersOnlyLine, IsServing, IsInCourse, IsStopped};
+ghost use Rattle.dsa_serve.specs.Worked.{explain_around, requests_of_a_dialogue, records_of_a_dialogue, lines_of_a_dialogue, records_of_two_polls, polled_record, poll_line, explained_poll_line, first_line, unseen, seen};
+ghost use Rattle.dsa_serve.specs.Worked.{line_of_fates, new_device_line, show_line, with_a_fate, with_two_fates};
 
-/// A step object asks its step, and `explain` around one its explanation. Nothing else asks
-/// anything.
+/// A step object asks its step, and `explain` around one its explanation. The words `show` and
+/// `fates` ask by themselves. Nothing else asks anything.
 pub fn requests()
-    ensures step { request_of (object_of poll_step) ≡ Step (Ask Poll) }
-    ensures explained { request_of (explain_around (object_of poll_step)) ≡ Explain (Ask Poll) }
+    ensures step { request_of (object_of poll_step) ≡ Step (Ask Poll) unseen }
+    ensures answer_seen { request_of
+        (object_of ((codes "answer", string (codes "nothing")) ∷ poll_step))
+        ≡ Step (Ask Poll) (seen (codes "nothing")) }
+    ensures no_text { request_of (object_of ((codes "answer", whole 1) ∷ poll_step))
+        ≡ Fault NoStep }
+    ensures no_truth { request_of
+        (explain_around (object_of ((codes "zf", whole 1) ∷ poll_step)))
+        ≡ Fault NoStep }
+    ensures explained_seen { request_of
+        (explain_around
+        (object_of ((codes "answer", string (codes "nothing")) ∷ poll_step)))
+        ≡ Explain (Ask Poll) (seen (codes "nothing")) }
+    ensures explained { request_of (explain_around (object_of poll_step))
+        ≡ Explain (Ask Poll) unseen }
     ensures twice { request_of (explain_around (explain_around (object_of poll_step)))
         ≡ Fault NoStep }
     ensures other_word { request_of
@@ -36,26 +53,40 @@ pub fn requests()
         ≡ Fault NoStep }
     ensures other_kind { request_of (object_of (step_of_kind (codes "submit") [])) ≡ Fault NoStep }
     ensures no_object { request_of (whole 1) ≡ Fault NoStep }
+    ensures show { request_of (object_of (step_of_kind (codes "show") [])) ≡ Show }
+    ensures fates { request_of (object_of (step_of_kind (codes "fates") [])) ≡ Fates }
+    ensures show_with_more { request_of
+        (object_of (step_of_kind (codes "show") ((codes "engine", whole 1) ∷ []))) ≡ Show }
+    ensures shows { request_of (object_of (step_of_kind (codes "shows") [])) ≡ Fault NoStep }
+    ensures explained_show { request_of
+        (explain_around (object_of (step_of_kind (codes "show") []))) ≡ Fault NoStep }
+    ensures word_alone { request_of (string (codes "show")) ≡ Fault NoStep }
+    ensures word_that_is_no_text { request_of (object_of ((codes "do", whole 1) ∷ []))
+        ≡ Fault NoStep }
 {}
 
 /// What lines ask, and which fault a line has.
 #[tactic(auto, unfolding(serde_json::proofs::OnLiterals::serde_json_on_literals))]
 pub fn lines()
-    ensures step { Asks poll_line (Step (Ask Poll)) }
-    ensures explained { Asks explained_poll_line (Explain (Ask Poll)) }
+    ensures step { Asks poll_line (Step (Ask Poll) unseen) }
+    ensures explained { Asks explained_poll_line (Explain (Ask Poll) unseen) }
+    ensures show { Asks show_line Show }
+    ensures fates { Asks line_of_fates Fates }
+    ensures too_long_to_show { (line : List ℕ) → length line ≡ 1_048_577 → ¬ Asks line Show }
     ensures no_step { Asks (codes "{}") (Fault NoStep) }
     ensures cut { Asks (codes "{") (Fault NotJson) }
     ensures too_long { (line : List ℕ) → length line ≡ 1_048_577 → Asks line (Fault TooLong) }
     ensures json { ¬ Asks (codes "{}") (Fault NotJson) }
-    ensures not_asked { ¬ Asks (codes "{}") (Step (Ask Poll)) }
+    ensures not_asked { ¬ Asks (codes "{}") (Step (Ask Poll) unseen) }
     ensures longest { (line : List ℕ) → length line ≡ 1_048_576 → ¬ Asks line (Fault TooLong) }
     ensures too_long_for_a_step { (line : List ℕ)
         → length line ≡ 1_048_577
-        → ¬ Asks line (Step (Ask Poll)) }
+        → ¬ Asks line (Step (Ask Poll) unseen) }
     ensures too_long_to_be_read { (line : List ℕ)
         → length line ≡ 1_048_577
         → ¬ Asks line (Fault NotJson) }
-    ensures each { AreAsked (poll_line ∷ codes "{" ∷ []) (Step (Ask Poll) ∷ Fault NotJson ∷ []) }
+    ensures each { AreAsked (poll_line ∷ codes "{" ∷ [])
+        (Step (Ask Poll) unseen ∷ Fault NotJson ∷ []) }
     ensures longest_that_is_no_json { (line : List ℕ)
         → length line ≡ 1_048_576
         → IsNoJson line
@@ -76,14 +107,88 @@ pub fn lines()
 pub fn a_dialogue()
     ensures steps { actions_of requests_of_a_dialogue
         ≡ Refuse BadCommand ∷ Ask Poll ∷ Ask Poll ∷ [] }
-    ensures answers { answers requests_of_a_dialogue
+    ensures answers { answers (running_at_first smallest_caps 9) 0 requests_of_a_dialogue
         (visits smallest_caps 9 [] records_of_a_dialogue)
         ≡ lines_of_a_dialogue }
     ensures too_long { line_fault_text TooLong ≡ codes "fault line too long" }
-    ensures answered { AreRequestsAnswered requests_of_a_dialogue
-        (visits smallest_caps 9 [] records_of_a_dialogue) lines_of_a_dialogue }
-    ensures not_answered { ¬ AreRequestsAnswered (Fault NoStep ∷ []) [] [] }
-    ensures without_its_step { ¬ AreRequestsAnswered (Step (Ask Poll) ∷ []) [] [] }
+    ensures answered { AreRequestsAnswered (running_at_first smallest_caps 9)
+        requests_of_a_dialogue (visits smallest_caps 9 [] records_of_a_dialogue)
+        lines_of_a_dialogue }
+    ensures not_answered { ¬ AreRequestsAnswered (running_at_first smallest_caps 9)
+        (Fault NoStep ∷ []) [] [] }
+    ensures without_its_step { ¬ AreRequestsAnswered
+        (running_at_first smallest_caps 9) (Step (Ask Poll) unseen ∷ []) [] [] }
+{}
+
+/// A device that is shown has the state that the last step has led it to, and no step is counted.
+#[tactic(auto, unfolding(dsa_scenario::specs::Worked::digits_on_literals))]
+pub fn shows()
+    ensures new { answers (running_at_first smallest_caps 9) 0 (Show ∷ []) []
+        ≡ new_device_line }
+    ensures no_step { actions_of (Show ∷ Step (Ask Poll) unseen ∷ Fates ∷ []) ≡ Ask Poll ∷ [] }
+    ensures numbers { answers (running_at_first smallest_caps 9) 0
+        (Explain (Ask Poll) unseen ∷ Show ∷ Explain (Ask Poll) unseen ∷ [])
+        (visits smallest_caps 9 [] records_of_two_polls)
+        ≡ codes "0 poll -> nothing: no command is active\n" ++ new_device_line
+        ++ codes "1 poll -> nothing: no command is active\n" }
+    ensures after_a_submission { answers (running_at_first caps_of_a_run 7) 0
+        (from_document (map (λ action. (action, unseen)) actions_of_a_submission) (Show ∷ []))
+        (visits caps_of_a_run 7 [] records_of_a_submission)
+        ≡ codes "written\nwritten\nended 0\nended 0\nrefused 13 BadCommand\naccepted 0\n"
+        ++ codes "{\"phase\":\"on\",\"queues\":["
+        ++ codes "{\"queue\":0,\"occupancy\":1,\"threshold\":8,\"size\":16,\"phase\":\"on\","
+        ++ codes "\"waiting\":[0]}],"
+        ++ codes "\"engines\":[{\"engine\":0,\"in_progress\":0,\"slots\":4,\"members\":0,"
+        ++ codes "\"names\":[],\"member_names\":[],\"batch\":null}],"
+        ++ codes "\"groups\":[{\"group\":0,\"used\":0,\"allowed\":32,\"reserved\":0}],"
+        ++ codes "\"active\":null}\n" }
+{}
+
+/// Fates are told once each, behind their number, and those of the document's steps too.
+#[tactic(auto, unfolding(dsa_scenario::specs::Worked::digits_on_literals))]
+pub fn fates_told()
+    ensures none { new_fates_text [] ≡ codes "fates 0\n" }
+    ensures two { new_fates_text with_two_fates.state.work.fates
+        ≡ codes "fates 2\nfate 3 - completed 01\nfate 0 - abandoned\n" }
+    ensures once { answers with_a_fate 0 (Fates ∷ Fates ∷ []) []
+        ≡ codes "fates 1\nfate 3 - completed 01\nfates 0\n" }
+    ensures first_was_told { answers with_two_fates 1 (Fates ∷ []) []
+        ≡ codes "fates 1\nfate 0 - abandoned\n" }
+    ensures told_then { fates_told_after with_a_fate 0 (Fates ∷ []) [] ≡ 1 }
+    ensures not_told { fates_told_after with_a_fate 0 (Show ∷ Fault NoStep ∷ []) [] ≡ 0 }
+    ensures further { answers with_a_fate 0 (Fates ∷ Step (Ask Poll) unseen ∷ Fates ∷ [])
+        (visit 0 with_a_fate polled_record with_two_fates ∷ [])
+        ≡ codes "fates 1\nfate 3 - completed 01\nnothing\nfates 1\nfate 0 - abandoned\n" }
+    ensures told_further { fates_told_after with_a_fate 0
+        (Fates ∷ Step (Ask Poll) unseen ∷ Explain (Ask Poll) unseen ∷ Fates ∷ [])
+        (visit 0 with_a_fate polled_record with_a_fate
+        ∷ visit 1 with_a_fate polled_record with_two_fates ∷ [])
+        ≡ 2 }
+    ensures of_a_run { answers (running_at_first caps_of_a_run 7) 0
+        (from_document (map (λ action. (action, unseen)) actions_of_a_run) (Fates ∷ Fates ∷ []))
+        (visits caps_of_a_run 7 [] records_of_a_run)
+        ≡ codes "written\nwritten\nended 0\nended 0\nrefused 13 BadCommand\n"
+        ++ codes "accepted 0\ntaken 0 from 0\ndone 01\nfull\n"
+        ++ codes "fates 1\nfate 0 - completed 01\nfates 0\n" }
+{}
+
+/// An answer that does not show what was seen has a word before it, and goes on. It is given only
+/// where no answer that is allowed shows it.
+#[tactic(auto, unfolding(dsa_scenario::specs::Worked::digits_on_literals))]
+pub fn differences()
+    ensures shown { difference true ≡ [] }
+    ensures differs { difference false ≡ codes "differs " }
+    ensures line { answers (running_at_first smallest_caps 9) 0
+        (Step (Ask Poll) (seen (codes "idle")) ∷ Step (Ask Poll) unseen ∷ [])
+        (visits smallest_caps 9 [] records_of_two_polls)
+        ≡ codes "differs nothing\nnothing\n" }
+    ensures explained { answers (running_at_first smallest_caps 9) 0
+        (Explain (Ask Poll) (seen (codes "idle")) ∷ [])
+        (visits smallest_caps 9 [] (polled_record ∷ []))
+        ≡ codes "differs 0 poll -> nothing: no command is active\n" }
+    ensures closest { AreClosest (running_at_first smallest_caps 9)
+        ((Ask Poll, seen (codes "nothing")) ∷ [])
+        (visits smallest_caps 9 [] (polled_record ∷ [])) }
 {}
 
 /// A first line, and the lines after it. The steps of the document come before what the lines ask,
@@ -114,7 +219,8 @@ pub fn dialogues()
     ensures memory_at_the_only_line { IsStopped ScenarioFault.OutOfMemory
         (Some (first_line poll_line)) (Some []) (Some []) (Some (codes "nothing\n")) }
     ensures ended { (first : List ℕ)
-        → IsDocument first caps_of_a_run 7 actions_of_a_run
+        → IsObservedDocument first caps_of_a_run 7
+        (map (λ action. (action, unseen)) actions_of_a_run)
         → IsDialogueEnded first [] lines_of_a_run }
 {}
 
@@ -279,32 +385,36 @@ pub fn late_faults()
 /// A session in its course: what it has read and answered, and what it keeps of the rest of a line.
 #[tactic(auto, unfolding(serde_json::proofs::OnLiterals::serde_json_on_literals, dsa_scenario::specs::Worked::digits_on_literals))]
 pub fn courses()
-    ensures steps_and_lines { from_document (Refuse BadCommand ∷ Ask Poll ∷ []) (Fault NotJson ∷ [])
-        ≡ Step (Refuse BadCommand) ∷ Step (Ask Poll) ∷ Fault NotJson ∷ [] }
-    ensures opened { IsServing (first_line []) [] [] 0 (running_at_first smallest_caps 9) [] [] }
+    ensures steps_and_lines { from_document
+        ((Refuse BadCommand, unseen) ∷ (Ask Poll, seen (codes "idle")) ∷ [])
+        (Fault NotJson ∷ [])
+        ≡ Step (Refuse BadCommand) unseen ∷ Step (Ask Poll) (seen (codes "idle"))
+        ∷ Fault NotJson ∷ [] }
+    ensures opened { IsServing (first_line []) [] [] 0 (running_at_first smallest_caps 9) [] 0 [] }
     ensures no_document { (output : List ℕ) (number : ℕ) (now : Running) (tickets : List Ticket)
-        (kept : List ℕ)
-        → ¬ IsServing (codes "{}") [] output number now tickets kept }
+        (told : ℕ) (kept : List ℕ)
+        → ¬ IsServing (codes "{}") [] output number now tickets told kept }
     ensures bad_caps { (output : List ℕ) (number : ℕ) (now : Running) (tickets : List Ticket)
-        (kept : List ℕ)
+        (told : ℕ) (kept : List ℕ)
         → ¬ IsServing (document_text no_caps_text (codes "9") []) [] output number now tickets
-        kept }
+        told kept }
     ensures answered_too_early { (output : List ℕ) (number : ℕ) (now : Running)
-        (tickets : List Ticket) (kept : List ℕ)
-        → IsServing (first_line []) [] output number now tickets kept
+        (tickets : List Ticket) (told : ℕ) (kept : List ℕ)
+        → IsServing (first_line []) [] output number now tickets told kept
         → output ≡ [] }
     ensures line_without_its_answer { (number : ℕ) (now : Running) (tickets : List Ticket)
-        (kept : List ℕ)
-        → ¬ IsServing (first_line []) (codes "\n") [] number now tickets kept }
+        (told : ℕ) (kept : List ℕ)
+        → ¬ IsServing (first_line []) (codes "\n") [] number now tickets told kept }
     ensures kept { (behind : List ℕ) (output : List ℕ) (number : ℕ) (now : Running)
-        (tickets : List Ticket) (kept : List ℕ)
+        (tickets : List Ticket) (told : ℕ) (kept : List ℕ)
         → IsLine behind
-        → IsServing (first_line []) behind output number now tickets kept
+        → IsServing (first_line []) behind output number now tickets told kept
         → length kept ≡ min 1_048_577 (length behind) }
     ensures begun { (dialogue : Dialogue ℕ)
         → dialogue.session.number ≡ 0
         → dialogue.session.device ≡ running_at_first smallest_caps 9
         → dialogue.session.tickets.items ≡ []
+        → dialogue.session.told ≡ 0
         → dialogue.kept.items ≡ []
         → IsInCourse false (Some (line_of_text (first_line []))) (Some []) (Some []) (Some [])
         dialogue }
@@ -322,7 +432,7 @@ pub fn courses()
         → IsLine first
         → length first ≡ 1_048_576
         → IsServing first [] [] dialogue.session.number dialogue.session.device
-        dialogue.session.tickets.items dialogue.kept.items
+        dialogue.session.tickets.items dialogue.session.told dialogue.kept.items
         → IsInCourse true (Some first) (Some []) (Some []) (Some []) dialogue }
     ensures written_too_early { (dialogue : Dialogue ℕ)
         → ¬ IsInCourse true (Some (first_line [])) (Some []) (Some []) (Some (codes "1"))

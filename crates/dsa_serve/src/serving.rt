@@ -159,11 +159,11 @@ fn finish<S: EntryStore, W: Write>(
     write_text(writer, text.as_bytes())
 }
 
-/// Reads a document in the first line and a step in each further one, and answers each line.
+/// Reads a document in the first line and a request in each further one, and answers each line.
 ///
 /// All whole lines that a read gave are answered, and the answers written, before the next read. A
-/// line that is no step is answered with its fault, and changes nothing. At the end of input come
-/// the fates, as at the end of a document's run.
+/// line that asks nothing is answered with its fault, and changes nothing. At the end of input come
+/// all fates, as at the end of a document's run.
 ///
 /// A fault of the document is the same as that of [`run_scenario`](dsa_scenario::run_scenario), and
 /// nothing is written then. On `Read` an answer of the reader was an error, and all whole lines
@@ -200,7 +200,7 @@ pub fn serve_counted<R: Read, W: Write>(
     finish(alloc, &mut it.dialogue, writer)
 }
 
-/// Reads a document in the first line and a step in each further one, and answers each line.
+/// Reads a document in the first line and a request in each further one, and answers each line.
 ///
 /// All of it is the work of [`serve_counted`], which is lent the reader as one that is counted.
 pub fn serve_watched<R: Read, W: Write>(

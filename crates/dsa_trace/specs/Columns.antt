@@ -3,15 +3,18 @@ use Rattle.std.specs.Prelude.{ℕ, ◌==◌, if◌then◌else◌, Bool, false, L
 use Rattle.std.specs.Prelude.{flat_map}
 use Rattle.std.specs.Option.{option_map}
 use Rattle.dsa_base.specs.Numbers.{numbers_below}
-use Rattle.dsa_regs.specs.declared.{Caps.{Caps}, Command.{Command}, QueueConfig.{QueueConfig}, GroupConfig.{GroupConfig}, Phase.{Phase}}
+use Rattle.dsa_regs.specs.declared.{Caps.{Caps}, Command.{Command}, Phase.{Phase}}
+use Rattle.dsa_regs.specs.declared.{QueueConfig.{QueueConfig}, GroupConfig.{GroupConfig}}
 use Rattle.dsa_regs.specs.Config.{queue_at, group_at}
-use Rattle.dsa_book.specs.{State.{State, occupancy, phase_at}, Work.{used, in_progress, members}}
+use Rattle.dsa_store.specs.Content.{HeldEntry, chain}
+use Rattle.dsa_book.specs.{State.{State, occupancy, phase_at}, Work.{used, in_progress, members, note_at}}
+use Rattle.dsa_book.specs.declared.note.BatchNote.{BatchNote}
 use Rattle.dsa_device.specs.Reads.{awaited}
 use Rattle.dsa_event_text.specs.Text.{command_with_operand, phase_word}
 use Rattle.dsa_trace.specs.declared.form.{Trace.{Trace, TheVariants.{Table, Json}}, Part.{Part}, Items.{Items}}
 use Rattle.dsa_trace.specs.declared.form.Items.TheVariants.{Queues, Engines, Groups}
 use Rattle.dsa_trace.specs.declared.form.Part.TheVariants as part
-use Rattle.dsa_trace.specs.Marks.{mark, comma}
+use Rattle.dsa_trace.specs.{Marks.{mark, comma}, Names.{names_part}, Notes.{batch_part}}
 
 -- a number behind its mark
 abbrev pub marked : Trace → Part → ℕ → List ℕ
@@ -36,21 +39,32 @@ phase_text Json part phase = mark Json part ++ phase_word phase
 abbrev pub limits_text : Trace → QueueConfig → List ℕ
 limits_text form config = threshold_text form config ++ marked form part.Size config.size
 
--- the phase of a queue, and the end of its column
-abbrev pub phase_end : Trace → Phase → List ℕ
-phase_end form phase = phase_text form part.QueuePhase phase ++ mark form part.PhaseEnd ++ mark form part.ColumnEnd
+-- the phase of a queue
+abbrev pub queue_phase : Trace → Phase → List ℕ
+queue_phase form phase = phase_text form part.QueuePhase phase ++ mark form part.PhaseEnd
 
 -- how many entries wait in a queue, against the limits of its portals, and its phase
 abbrev pub queue_text : Trace → ℕ → ℕ → QueueConfig → Phase → List ℕ
 queue_text form queue waiting config phase = if is_left_out form config then [] else
     (comma form queue ++ marked form part.Queue queue ++ marked form part.Occupancy waiting
-    ++ limits_text form config ++ phase_end form phase)
+    ++ limits_text form config ++ queue_phase form phase)
 
 -- how many slots of an engine are in use, of how many, and how many members of its batch have not ended
 abbrev pub engine_text : Trace → ℕ → ℕ → ℕ → ℕ → List ℕ
 engine_text form engine taken slots left =
     comma form engine ++ marked form part.Engine engine ++ marked form part.InProgress taken
-    ++ marked form part.Slots slots ++ marked form part.Members left ++ mark form part.ColumnEnd
+    ++ marked form part.Slots slots ++ marked form part.Members left
+
+-- the names of the entries that wait in a queue, the front first, and the end of its column
+abbrev pub waiting_text : Trace → List HeldEntry → List ℕ
+waiting_text form entries = names_part form part.Waiting entries ++ mark form part.ObjectEnd
+
+-- the names of what an engine has in progress, the oldest first, and of the members of its batch that have not ended,
+-- what is noted of the batch, and the end of the engine's column
+abbrev pub work_text : Trace → List HeldEntry → List HeldEntry → Option BatchNote → List ℕ
+work_text form taken left note =
+    names_part form part.Names taken ++ names_part form part.MemberNames left ++ batch_part form note
+    ++ mark form part.ObjectEnd
 
 -- how many read buffers are reserved for a group; the table does not show it
 abbrev pub reserved_text : Trace → ℕ → List ℕ
@@ -61,12 +75,12 @@ reserved_text Json reserved = marked Json part.Reserved reserved
 abbrev pub group_text : Trace → ℕ → ℕ → GroupConfig → List ℕ
 group_text form group taken config =
     comma form group ++ marked form part.Group group ++ marked form part.Used taken
-    ++ marked form part.Allowed config.allowed ++ reserved_text form config.reserved ++ mark form part.ColumnEnd
+    ++ marked form part.Allowed config.allowed ++ reserved_text form config.reserved ++ mark form part.ObjectEnd
 
 -- the command that is not over, and how many entries it waits for
 abbrev pub command_text : Trace → Option Command → Option ℕ → List ℕ
 command_text form (Some command) (Some count) =
-    mark form part.Active ++ command_with_operand command ++ marked form part.Awaited count ++ mark form part.CommandEnd
+    mark form part.Active ++ command_with_operand command ++ marked form part.Awaited count ++ mark form part.ObjectEnd
 command_text form _ _ = mark form part.NoCommand
 
 -- ---- of a state
@@ -81,8 +95,10 @@ item_count caps Groups = caps.groups
 abbrev pub item_text : Trace → Caps → State → Items → ℕ → List ℕ
 item_text form caps s Queues q =
     queue_text form q (occupancy s.work.content q) (queue_at s.work.setup.configs q) (phase_at s.work.setup q)
+    ++ waiting_text form (chain s.work.content q)
 item_text form caps s Engines e =
     engine_text form e (length (in_progress s.work e)) caps.slots (length (members s.work e))
+    ++ work_text form (in_progress s.work e) (members s.work e) (note_at s.work e)
 item_text form caps s Groups g = group_text form g (used s.work g) (group_at s.work.setup.groups g)
 
 -- the mark of an array, and all its items
@@ -93,9 +109,14 @@ items_text form caps s kind =
 abbrev pub command_column : Trace → State → List ℕ
 command_column form s = command_text form (option_map (λ active. active.command) s.active) (awaited s)
 
--- the phase of the device, the queues, engines and groups that it has, and the active command
-abbrev pub columns : Trace → Caps → State → List ℕ
-columns form caps s =
+-- what is told of a state: the phase of the device, the queues, engines and groups that it has, and the active
+-- command; of a JSON object these are members (profile)
+abbrev pub state_members : Trace → Caps → State → List ℕ
+state_members form caps s =
     phase_text form part.DevicePhase s.work.setup.device
     ++ items_text form caps s Queues ++ items_text form caps s Engines ++ items_text form caps s Groups
     ++ command_column form s
+
+-- the JSON object that has these members and no other (profile)
+abbrev pub state_object : Caps → State → List ℕ
+state_object caps s = mark Json part.StateStart ++ state_members Json caps s ++ mark Json part.ObjectEnd

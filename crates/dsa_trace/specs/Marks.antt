@@ -3,24 +3,29 @@ use Rattle.std.specs.Prelude.{ℕ, ◌==◌, if◌then◌else◌, List, [], code
 use Rattle.dsa_trace.specs.declared.form.{Trace.{Trace, TheVariants.{Table, Json}}, Part.{Part}}
 use Rattle.dsa_trace.specs.declared.form.Items.TheVariants.{Queues, Engines, Groups}
 use Rattle.dsa_trace.specs.declared.form.Part.TheVariants.{Step, Event, Answer, Items, NoCommand}
-use Rattle.dsa_trace.specs.declared.form.Part.TheVariants.{Active, Awaited, CommandEnd, LineEnd, Queue, Occupancy}
+use Rattle.dsa_trace.specs.declared.form.Part.TheVariants.{Active, Awaited, LineEnd, Queue, Occupancy}
 use Rattle.dsa_trace.specs.declared.form.Part.TheVariants.{Threshold, Size, Engine, InProgress, Slots, Members, Group}
-use Rattle.dsa_trace.specs.declared.form.Part.TheVariants.{Used, Allowed, ColumnEnd, Held, InList, HeldEnd}
+use Rattle.dsa_trace.specs.declared.form.Part.TheVariants.{Used, Allowed, Held, InList, HeldEnd}
 use Rattle.dsa_trace.specs.declared.form.Part.TheVariants.{DevicePhase, QueuePhase, PhaseEnd, Reserved}
+use Rattle.dsa_trace.specs.declared.form.Part.TheVariants.{AnswerEnd, StateStart, ObjectEnd}
+use Rattle.dsa_trace.specs.declared.form.Part.TheVariants.{Waiting, Names, MemberNames, NamesEnd}
+use Rattle.dsa_trace.specs.declared.form.Part.TheVariants.{NoBatch, Batch}
 
 -- before a part of a row of the table, and before the same part of a JSON object
 abbrev pub marks : Part → List ℕ × List ℕ
 marks Step = ([], codes "{\"step\":")
 marks Event = (codes " ", codes ",\"event\":\"")
 marks Answer = (codes " -> ", codes "\",\"answer\":\"")
-marks DevicePhase = ([], codes "\",\"phase\":\"")
+marks AnswerEnd = ([], codes "\",")
+marks StateStart = ([], codes "{")
+marks ObjectEnd = ([], codes "}")
+marks DevicePhase = ([], codes "\"phase\":\"")
 marks (Items Queues) = (codes " |", codes "\",\"queues\":[")
 marks (Items Engines) = (codes " |", codes "],\"engines\":[")
 marks (Items Groups) = (codes " |", codes "],\"groups\":[")
 marks NoCommand = ([], codes "],\"active\":null")
 marks Active = (codes " | ", codes "],\"active\":{\"command\":\"")
 marks Awaited = (codes " awaits ", codes "\",\"awaited\":")
-marks CommandEnd = ([], codes "}")
 marks LineEnd = (codes "\n", codes "}\n")
 marks Queue = (codes " q", codes "{\"queue\":")
 marks Occupancy = (codes " ", codes ",\"occupancy\":")
@@ -28,15 +33,20 @@ marks Threshold = (codes "/", codes ",\"threshold\":")
 marks Size = (codes "/", codes ",\"size\":")
 marks QueuePhase = ([], codes ",\"phase\":\"")
 marks PhaseEnd = ([], codes "\"")
+marks Waiting = ([], codes ",\"waiting\":[")
 marks Engine = (codes " e", codes "{\"engine\":")
 marks InProgress = (codes " ", codes ",\"in_progress\":")
 marks Slots = (codes "/", codes ",\"slots\":")
 marks Members = (codes " m", codes ",\"members\":")
+marks Names = ([], codes ",\"names\":[")
+marks MemberNames = ([], codes ",\"member_names\":[")
+marks NamesEnd = ([], codes "]")
+marks NoBatch = ([], codes ",\"batch\":null")
+marks Batch = ([], codes ",\"batch\":{")
 marks Group = (codes " g", codes "{\"group\":")
 marks Used = (codes " ", codes ",\"used\":")
 marks Allowed = (codes "/", codes ",\"allowed\":")
 marks Reserved = ([], codes ",\"reserved\":")
-marks ColumnEnd = ([], codes "}")
 marks Held = (codes "held ", codes "{\"held\":")
 marks InList = (codes " in ", codes ",\"list\":\"")
 marks HeldEnd = (codes "\n", codes "\"}\n")

@@ -2,13 +2,21 @@
 
 ghost use Rattle.std.specs.Prelude.{◌≡◌, ◌<◌};
 ghost use Rattle.dsa_event_text.specs.Added.{Adds};
-ghost use Rattle.dsa_trace.specs.Columns.{columns, command_text, engine_text, group_text, is_left_out, item_count, item_text, items_text, limits_text, phase_end, phase_text, queue_text, reserved_text, threshold_text};
+ghost use Rattle.dsa_trace.specs.Columns.{command_text, engine_text, group_text, is_left_out};
+ghost use Rattle.dsa_trace.specs.Columns.{item_count, item_text, items_text};
+ghost use Rattle.dsa_trace.specs.Columns.{limits_text, phase_text, queue_phase, queue_text};
+ghost use Rattle.dsa_trace.specs.Columns.{reserved_text};
+ghost use Rattle.dsa_trace.specs.Columns.{state_members, state_object, threshold_text};
+ghost use Rattle.dsa_trace.specs.Columns.{waiting_text, work_text};
 
 use crate::form::{Items, Part, Trace, add_comma, add_mark, add_marked};
+use crate::names::add_names;
+use crate::notes::add_batch;
+use dsa_book::BatchNote;
 use dsa_device::Device;
 use dsa_event_text::{Added, add_command, phase_word};
 use dsa_regs::{Caps, Command, GroupConfig, Phase, QueueConfig};
-use dsa_store::EntryStore;
+use dsa_store::{EntryStore, Walk};
 
 fn is_left_out(form: Trace, config: &QueueConfig) -> bool
     ensures { result ≡ is_left_out form config.now }
@@ -48,13 +56,12 @@ fn add_phase(text: &mut String, form: Trace, part: Part, phase: Phase) -> Added
     }
 }
 
-// The phase of a queue, and the end of its column.
-fn add_phase_end(text: &mut String, form: Trace, phase: Phase) -> Added
-    ensures { Adds result text.old text.new (phase_end form phase) }
+// The phase of a queue.
+fn add_queue_phase(text: &mut String, form: Trace, phase: Phase) -> Added
+    ensures { Adds result text.old text.new (queue_phase form phase) }
 {
     add_phase(text, form, Part::QueuePhase, phase)?;
-    add_mark(text, form, Part::PhaseEnd)?;
-    add_mark(text, form, Part::ColumnEnd)
+    add_mark(text, form, Part::PhaseEnd)
 }
 
 fn add_queue(
@@ -74,7 +81,7 @@ fn add_queue(
     add_marked(text, form, Part::Queue, u32::from(queue))?;
     add_marked(text, form, Part::Occupancy, u32::from(waiting))?;
     add_limits(text, form, config)?;
-    add_phase_end(text, form, phase)
+    add_queue_phase(text, form, phase)
 }
 
 fn add_engine(
@@ -91,8 +98,31 @@ fn add_engine(
     add_marked(text, form, Part::Engine, u32::from(engine))?;
     add_marked(text, form, Part::InProgress, taken)?;
     add_marked(text, form, Part::Slots, u32::from(slots))?;
-    add_marked(text, form, Part::Members, left)?;
-    add_mark(text, form, Part::ColumnEnd)
+    add_marked(text, form, Part::Members, left)
+}
+
+// The names of the entries that wait in a queue, and the end of its column.
+fn add_waiting<S: EntryStore>(text: &mut String, form: Trace, entries: Walk<'_, S>) -> Added
+    ensures { Adds result text.old text.new (waiting_text form entries.entry) }
+{
+    add_names(text, form, Part::Waiting, entries)?;
+    add_mark(text, form, Part::ObjectEnd)
+}
+
+// The names of what an engine has, what is noted of its batch, and the end of its column.
+fn add_work<S: EntryStore>(
+    text: &mut String,
+    form: Trace,
+    taken: Walk<'_, S>,
+    left: Walk<'_, S>,
+    note: Option<BatchNote>,
+) -> Added
+    ensures { Adds result text.old text.new (work_text form taken.entry left.entry note) }
+{
+    add_names(text, form, Part::Names, taken)?;
+    add_names(text, form, Part::MemberNames, left)?;
+    add_batch(text, form, note)?;
+    add_mark(text, form, Part::ObjectEnd)
 }
 
 fn add_reserved(text: &mut String, form: Trace, reserved: u16) -> Added
@@ -112,7 +142,7 @@ fn add_group(text: &mut String, form: Trace, group: u16, taken: u16, config: &Gr
     add_marked(text, form, Part::Used, u32::from(taken))?;
     add_marked(text, form, Part::Allowed, u32::from(config.allowed))?;
     add_reserved(text, form, config.reserved)?;
-    add_mark(text, form, Part::ColumnEnd)
+    add_mark(text, form, Part::ObjectEnd)
 }
 
 fn add_active(
@@ -128,7 +158,7 @@ fn add_active(
             add_mark(text, form, Part::Active)?;
             add_command(text, &command)?;
             add_marked(text, form, Part::Awaited, count)?;
-            add_mark(text, form, Part::CommandEnd)
+            add_mark(text, form, Part::ObjectEnd)
         }
         _ => add_mark(text, form, Part::NoCommand),
     }
@@ -151,15 +181,23 @@ fn add_item<S: EntryStore>(
             device.occupancy(place),
             device.queue_config(place),
             device.queue_phase(place),
+            device.waiting(place),
         ) {
-            (Some(waiting), Some(config), Some(phase)) => {
-                add_queue(text, form, place, waiting, &config, phase)
+            (Some(waiting), Some(config), Some(phase), Some(entries)) => {
+                add_queue(text, form, place, waiting, &config, phase)?;
+                add_waiting(text, form, entries)
             }
             _ => unreachable!(),
         },
-        Items::Engines => match (device.in_progress_count(place), device.member_count(place)) {
-            (Some(taken), Some(left)) => {
-                add_engine(text, form, place, taken, device.caps().slots, left)
+        Items::Engines => match (
+            device.in_progress_count(place),
+            device.member_count(place),
+            device.in_progress(place),
+            device.members(place),
+        ) {
+            (Some(taken), Some(left), Some(entries), Some(members)) => {
+                add_engine(text, form, place, taken, device.caps().slots, left)?;
+                add_work(text, form, entries, members, device.batch(place))
             }
             _ => unreachable!(),
         },
@@ -196,13 +234,24 @@ fn add_items<S: EntryStore>(
     Ok(())
 }
 
-/// Adds what a line shows of the device.
-pub fn add_columns<S: EntryStore>(text: &mut String, form: Trace, device: &Device<S>) -> Added
-    ensures { Adds result text.old text.new (columns form device.now.caps device.now.state) }
+/// Adds what is told of the device as it stands: the columns of a row, or the members of an object.
+pub fn add_state_members<S: EntryStore>(text: &mut String, form: Trace, device: &Device<S>) -> Added
+    ensures { Adds result text.old text.new
+        (state_members form device.now.caps device.now.state) }
 {
     add_phase(text, form, Part::DevicePhase, device.phase())?;
     add_items(text, form, device, Items::Queues)?;
     add_items(text, form, device, Items::Engines)?;
     add_items(text, form, device, Items::Groups)?;
     add_active(text, form, device.active(), device.awaited())
+}
+
+/// Adds the JSON object of the device as it stands, which has the members that the trace shows of
+/// it after a step: `{"phase":"on","queues":[..],"engines":[..],"groups":[..],"active":null}`.
+pub fn add_state<S: EntryStore>(text: &mut String, device: &Device<S>) -> Added
+    ensures { Adds result text.old text.new (state_object device.now.caps device.now.state) }
+{
+    add_mark(text, Trace::Json, Part::StateStart)?;
+    add_state_members(text, Trace::Json, device)?;
+    add_mark(text, Trace::Json, Part::ObjectEnd)
 }

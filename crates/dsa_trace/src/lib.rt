@@ -3,12 +3,16 @@
 //!
 //! [`Trace`] makes the text, a row of a table or a JSON object for each step, and then one for each
 //! entry that is held when the steps are over. `docs/COMMANDS.md` describes both forms.
+//! [`add_state`] makes the object of a device as it stands, without a step.
 #![tactic(auto)]
 
 mod columns;
 mod form;
 mod held;
 mod lines;
+mod names;
+mod notes;
 mod rendering;
 
+pub use columns::{add_state, add_state_members};
 pub use form::Trace;

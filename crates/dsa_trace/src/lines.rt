@@ -3,13 +3,12 @@
 ghost use Rattle.std.specs.Prelude.{◌++◌};
 ghost use Rattle.std.specs.Fmt.{decimal};
 ghost use Rattle.dsa_event_text.specs.Added.{Adds};
-ghost use Rattle.dsa_scenario.specs.Lines.{record_text};
 ghost use Rattle.dsa_trace.specs.declared.form.Part.TheVariants as part;
 ghost use Rattle.dsa_trace.specs.Columns.{marked};
-ghost use Rattle.dsa_trace.specs.Lines.{traced_event_words, step_line};
+ghost use Rattle.dsa_trace.specs.Lines.{answered_text, traced_event_words, step_line};
 ghost use Rattle.dsa_trace.specs.Marks.{mark};
 
-use crate::columns::add_columns;
+use crate::columns::add_state_members;
 use crate::form::{Part, Trace, add_mark};
 use dsa_device::Device;
 use dsa_event_text::{Added, add_event};
@@ -36,10 +35,11 @@ fn add_asked(text: &mut String, form: Trace, entry: &Record) -> Added
 }
 
 fn add_answered(text: &mut String, form: Trace, entry: &Record) -> Added
-    ensures { Adds result text.old text.new (mark form part.Answer ++ record_text entry.now) }
+    ensures { Adds result text.old text.new (answered_text form entry.now) }
 {
     add_mark(text, form, Part::Answer)?;
-    add_answer(text, entry)
+    add_answer(text, entry)?;
+    add_mark(text, form, Part::AnswerEnd)
 }
 
 /// Adds the line of a step, with what the device shows after it.
@@ -56,6 +56,6 @@ pub fn add_step<S: EntryStore>(
     add_place(text, form, number)?;
     add_asked(text, form, entry)?;
     add_answered(text, form, entry)?;
-    add_columns(text, form, device)?;
+    add_state_members(text, form, device)?;
     add_mark(text, form, Part::LineEnd)
 }

@@ -1,7 +1,7 @@
 -- A device and a step that the worked rows speak of.
 use Rattle.dsa_book.specs.declared.answer.Reply.TheVariants as reply
 use Rattle.dsa_book.specs.declared.event.Event.TheVariants as event
-use Rattle.std.specs.Prelude.{ℕ, ◌*◌, Bool, true, false, [], ◌∷◌, Option, Some, None}
+use Rattle.std.specs.Prelude.{ℕ, ◌*◌, Bool, true, false, List, [], ◌∷◌, ◌++◌, Option, Some, None, codes}
 use Rattle.dsa_regs.specs.declared.{Caps.{Caps}, Command.TheVariants.{DrainPasid}, QueueConfig.{QueueConfig}}
 use Rattle.dsa_regs.specs.declared.Phase.TheVariants.{Off, On, Stopping}
 use Rattle.dsa_regs.specs.{Config.{zero_queue, zero_group}, Worked.{caps}}
@@ -48,6 +48,8 @@ device_of_a_trace =
                 record zero_group { engines = 2; allowed = 11 } ∷ record zero_group { engines = 1; allowed = 13 }
                 ∷ zero_group ∷ record zero_group { reserved = 3; allowed = 4 } ∷ [];
           };
+          notes =
+              None ∷ Some (record { batch = 33; count = 4; fetched = 3; failed = false; closed = false }) ∷ [];
           content =
               [] ∷ (traced_entry 21 None 1 false ∷ traced_entry 22 None 1 false ∷ [])
               ∷ (traced_entry 23 None 1 false ∷ []) ∷ (traced_entry 31 None 1 true ∷ [])
@@ -64,3 +66,37 @@ abbrev pub step_of_a_trace : Visit
 step_of_a_trace =
     visit 12 (running_at_first smallest_caps 50)
     (stepped (event.Dispatch 1) (reply.Dispatch (Taken (record_ticket 5 33) 2))) device_of_a_trace
+
+-- ---- what the objects of two devices tell
+
+-- of the smallest one at first
+abbrev pub members_at_first : List ℕ
+members_at_first =
+    codes "\"phase\":\"off\",\"queues\":["
+    ++ codes "{\"queue\":0,\"occupancy\":0,\"threshold\":0,\"size\":0,\"phase\":\"off\","
+    ++ codes "\"waiting\":[]}],"
+    ++ codes "\"engines\":[{\"engine\":0,\"in_progress\":0,\"slots\":1,\"members\":0,"
+    ++ codes "\"names\":[],\"member_names\":[],\"batch\":null}],"
+    ++ codes "\"groups\":[{\"group\":0,\"used\":0,\"allowed\":0,\"reserved\":0}],"
+    ++ codes "\"active\":null"
+
+-- of the one above
+abbrev pub members_of_a_trace : List ℕ
+members_of_a_trace =
+    codes "\"phase\":\"on\",\"queues\":["
+    ++ codes "{\"queue\":0,\"occupancy\":0,\"threshold\":7,\"size\":0,\"phase\":\"off\","
+    ++ codes "\"waiting\":[]},"
+    ++ codes "{\"queue\":1,\"occupancy\":2,\"threshold\":8,\"size\":9,\"phase\":\"on\","
+    ++ codes "\"waiting\":[21,22]},"
+    ++ codes "{\"queue\":2,\"occupancy\":1,\"threshold\":5,\"size\":12,"
+    ++ codes "\"phase\":\"stopping\",\"waiting\":[23]}],\"engines\":["
+    ++ codes "{\"engine\":0,\"in_progress\":1,\"slots\":6,\"members\":0,"
+    ++ codes "\"names\":[31],\"member_names\":[],\"batch\":null},"
+    ++ codes "{\"engine\":1,\"in_progress\":2,\"slots\":6,\"members\":3,"
+    ++ codes "\"names\":[32,33],\"member_names\":[41,42,43],\"batch\":{\"name\":33,\"count\":4,"
+    ++ codes "\"fetched\":3,\"failed\":false,\"closed\":false}}],\"groups\":["
+    ++ codes "{\"group\":0,\"used\":6,\"allowed\":11,\"reserved\":0},"
+    ++ codes "{\"group\":1,\"used\":1,\"allowed\":13,\"reserved\":0},"
+    ++ codes "{\"group\":2,\"used\":0,\"allowed\":0,\"reserved\":0},"
+    ++ codes "{\"group\":3,\"used\":0,\"allowed\":4,\"reserved\":3}],"
+    ++ codes "\"active\":{\"command\":\"drain-pasid 7\",\"awaited\":5}"

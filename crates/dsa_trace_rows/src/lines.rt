@@ -6,10 +6,11 @@ ghost use Rattle.dsa_device.specs.Running.{running_at_first};
 ghost use Rattle.dsa_scenario.specs.declared.run.Record.TheVariants.{Refused};
 ghost use Rattle.dsa_scenario.specs.Worked.{poll_text, smallest_caps, stepless_text};
 ghost use Rattle.dsa_trace.specs.declared.form.Trace.TheVariants.{Table, Json};
+ghost use Rattle.dsa_trace.specs.Columns.{state_object};
 ghost use Rattle.dsa_trace.specs.Held.{held_lines};
 ghost use Rattle.dsa_trace.specs.Lines.{step_line, trace_line_of_step};
 ghost use Rattle.dsa_trace.specs.Run.{IsTrace, IsTraceOf};
-ghost use Rattle.dsa_trace_rows.specs.Worked.{device_of_a_trace, step_of_a_trace};
+ghost use Rattle.dsa_trace_rows.specs.Worked.{device_of_a_trace, members_at_first, members_of_a_trace, step_of_a_trace};
 
 /// The line of a step of a device with three queues, two engines and four groups, and that of a
 /// word that is no command on a new device.
@@ -20,29 +21,23 @@ pub fn of_steps()
         ++ codes " | g0 6/11 g1 1/13 g2 0/0 g3 0/4 | drain-pasid 7 awaits 5\n" }
     ensures json { trace_line_of_step Json step_of_a_trace
         ≡ codes "{\"step\":12,\"event\":\"dispatch e1\",\"answer\":\"taken 33 from 2\","
-        ++ codes "\"phase\":\"on\",\"queues\":["
-        ++ codes "{\"queue\":0,\"occupancy\":0,\"threshold\":7,\"size\":0,\"phase\":\"off\"},"
-        ++ codes "{\"queue\":1,\"occupancy\":2,\"threshold\":8,\"size\":9,\"phase\":\"on\"},"
-        ++ codes "{\"queue\":2,\"occupancy\":1,\"threshold\":5,\"size\":12,"
-        ++ codes "\"phase\":\"stopping\"}],\"engines\":["
-        ++ codes "{\"engine\":0,\"in_progress\":1,\"slots\":6,\"members\":0},"
-        ++ codes "{\"engine\":1,\"in_progress\":2,\"slots\":6,\"members\":3}],\"groups\":["
-        ++ codes "{\"group\":0,\"used\":6,\"allowed\":11,\"reserved\":0},"
-        ++ codes "{\"group\":1,\"used\":1,\"allowed\":13,\"reserved\":0},"
-        ++ codes "{\"group\":2,\"used\":0,\"allowed\":0,\"reserved\":0},"
-        ++ codes "{\"group\":3,\"used\":0,\"allowed\":4,\"reserved\":3}],"
-        ++ codes "\"active\":{\"command\":\"drain-pasid 7\",\"awaited\":5}}\n" }
+        ++ members_of_a_trace ++ codes "}\n" }
     ensures word { step_line Table smallest_caps 9 (Refused BadCommand)
         (running_at_first smallest_caps 4).state
         ≡ codes "9 command -> refused 13 BadCommand | | e0 0/1 m0 | g0 0/0\n" }
     ensures word_as_json { step_line Json smallest_caps 9 (Refused BadCommand)
         (running_at_first smallest_caps 4).state
         ≡ codes "{\"step\":9,\"event\":\"command\",\"answer\":\"refused 13 BadCommand\","
-        ++ codes "\"phase\":\"off\",\"queues\":["
-        ++ codes "{\"queue\":0,\"occupancy\":0,\"threshold\":0,\"size\":0,\"phase\":\"off\"}],"
-        ++ codes "\"engines\":[{\"engine\":0,\"in_progress\":0,\"slots\":1,\"members\":0}],"
-        ++ codes "\"groups\":[{\"group\":0,\"used\":0,\"allowed\":0,\"reserved\":0}],"
-        ++ codes "\"active\":null}\n" }
+        ++ members_at_first ++ codes "}\n" }
+{}
+
+/// The object of a device alone: a new one, and one of three queues, two engines and four groups.
+#[tactic(auto, unfolding(dsa_scenario::specs::Worked::digits_on_literals))]
+pub fn of_states()
+    ensures new { state_object smallest_caps (running_at_first smallest_caps 4).state
+        ≡ codes "{" ++ members_at_first ++ codes "}" }
+    ensures working { state_object device_of_a_trace.caps device_of_a_trace.state
+        ≡ codes "{" ++ members_of_a_trace ++ codes "}" }
 {}
 
 /// A line for each entry that is held: in the queues, on the engines, and in their batches.

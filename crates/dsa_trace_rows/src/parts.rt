@@ -1,12 +1,16 @@
 //! The parts of lines, at chosen numbers.
 
-ghost use Rattle.std.specs.Prelude.{◌≡◌, [], ◌∷◌, Some, None, true, false, codes, map};
+ghost use Rattle.std.specs.Prelude.{◌≡◌, ◌++◌, [], ◌∷◌, Some, None, true, false, codes, map};
 ghost use Rattle.dsa_regs.specs.declared.Command.TheVariants.{DrainPasid};
 ghost use Rattle.dsa_regs.specs.declared.layout.ListUse.TheVariants.{Members};
 ghost use Rattle.dsa_trace.specs.declared.form.Trace.TheVariants.{Table, Json};
 ghost use Rattle.dsa_trace.specs.declared.form.Items.TheVariants.{Queues, Engines, Groups};
-ghost use Rattle.dsa_trace.specs.Columns.{command_text, engine_text, group_text, item_count, phase_text, queue_text};
-ghost use Rattle.dsa_trace.specs.declared.form.Part.TheVariants.{DevicePhase};
+ghost use Rattle.dsa_trace.specs.Columns.{command_text, engine_text, group_text, item_count};
+ghost use Rattle.dsa_trace.specs.Columns.{phase_text, queue_text};
+ghost use Rattle.dsa_trace.specs.declared.form.Part.TheVariants.{DevicePhase, MemberNames, Names};
+ghost use Rattle.dsa_trace.specs.declared.form.Part.TheVariants.{Waiting};
+ghost use Rattle.dsa_trace.specs.Names.{names_part, entry_names_text};
+ghost use Rattle.dsa_trace.specs.Notes.{batch_members, batch_part};
 ghost use Rattle.dsa_regs.specs.declared.Phase.TheVariants.{Off, On, Stopping};
 ghost use Rattle.dsa_regs.specs.Worked.{first_group};
 ghost use Rattle.dsa_trace.specs.Held.{held_line};
@@ -22,9 +26,9 @@ pub fn queues()
     ensures shared { queue_text Table 3 2 (queue_of_a_trace 9 8 false) Off
         ≡ codes " q3 2/8/9" }
     ensures no_size { queue_text Json 3 2 (queue_of_a_trace 0 7 false) Off
-        ≡ codes ",{\"queue\":3,\"occupancy\":2,\"threshold\":7,\"size\":0,\"phase\":\"off\"}" }
+        ≡ codes ",{\"queue\":3,\"occupancy\":2,\"threshold\":7,\"size\":0,\"phase\":\"off\"" }
     ensures first { queue_text Json 0 1 (queue_of_a_trace 9 8 true) Stopping
-        ≡ codes "{\"queue\":0,\"occupancy\":1,\"threshold\":8,\"size\":9,\"phase\":\"stopping\"}" }
+        ≡ codes "{\"queue\":0,\"occupancy\":1,\"threshold\":8,\"size\":9,\"phase\":\"stopping\"" }
 {}
 
 /// An engine and a group.
@@ -34,17 +38,47 @@ pub fn engines_and_groups()
         ≡ 3 ∷ 2 ∷ 4 ∷ [] }
     ensures engine { engine_text Table 3 4 16 12 ≡ codes " e3 4/16 m12" }
     ensures engine_as_json { engine_text Json 3 4 16 12
-        ≡ codes ",{\"engine\":3,\"in_progress\":4,\"slots\":16,\"members\":12}" }
+        ≡ codes ",{\"engine\":3,\"in_progress\":4,\"slots\":16,\"members\":12" }
     ensures group { group_text Table 3 10 (record first_group { reserved = 7; allowed = 24 })
         ≡ codes " g3 10/24" }
     ensures group_as_json { group_text Json 3 10 (record first_group { reserved = 7; allowed = 24 })
         ≡ codes ",{\"group\":3,\"used\":10,\"allowed\":24,\"reserved\":7}" }
 {}
 
+/// The names of entries: none, one, and more with commas between them.
+#[tactic(auto, unfolding(dsa_scenario::specs::Worked::digits_on_literals))]
+pub fn names()
+    ensures none { entry_names_text [] ≡ [] }
+    ensures one { entry_names_text (traced_entry 42 None 1 false ∷ []) ≡ codes "42" }
+    ensures three { entry_names_text (traced_entry 42 None 1 false ∷ traced_entry 7 None 1 true
+        ∷ traced_entry 50 (Some 7) 1 true ∷ []) ≡ codes "42,7,50" }
+    ensures table { names_part Table Waiting (traced_entry 42 None 1 false ∷ []) ≡ [] }
+    ensures queue { names_part Json Waiting (traced_entry 42 None 1 false ∷ [])
+        ≡ codes ",\"waiting\":[42]" }
+    ensures engine { names_part Json Names [] ++ names_part Json MemberNames []
+        ≡ codes ",\"names\":[],\"member_names\":[]" }
+{}
+
+/// The batch of an engine, which the table leaves out.
+#[tactic(auto, unfolding(dsa_scenario::specs::Worked::digits_on_literals))]
+pub fn notes()
+    ensures no_batch { batch_part Json None ≡ codes ",\"batch\":null" }
+    ensures batch { batch_part Json (Some (record
+        { batch = 33; count = 8; fetched = 5; failed = true; closed = false }))
+        ≡ codes ",\"batch\":{\"name\":33,\"count\":8,\"fetched\":5,\"failed\":true,"
+        ++ codes "\"closed\":false}" }
+    ensures closed { batch_members (record
+        { batch = 1; count = 2; fetched = 0; failed = false; closed = true })
+        ≡ codes "\"name\":1,\"count\":2,\"fetched\":0,\"failed\":false,\"closed\":true" }
+    ensures table { batch_part Table (Some (record
+        { batch = 33; count = 8; fetched = 5; failed = true; closed = false }))
+        ≡ [] }
+{}
+
 /// The phase of the device, which the table leaves out.
 pub fn phases()
     ensures table { phase_text Table DevicePhase Stopping ≡ [] }
-    ensures json { phase_text Json DevicePhase Stopping ≡ codes "\",\"phase\":\"stopping" }
+    ensures json { phase_text Json DevicePhase Stopping ≡ codes "\"phase\":\"stopping" }
 {}
 
 /// The active command, where there is one and it is known how many entries it waits for.

@@ -198,6 +198,34 @@ def passes_all(test, xs, ys):
     return len(xs) == len(ys) and all(test(x)(y) for x, y in zip(xs, ys))
 
 
+def edits(xs, ys):
+    """The table of edits between two names, of which the last row is looked at: a character more, less or changed, or two beside
+    each other exchanged."""
+    rows = [list(range(len(ys) + 1))]
+    for i, x in enumerate(xs):
+        row = [i + 1]
+        for j, y in enumerate(ys):
+            least = min(rows[i][j] + (x != y), rows[i][j + 1] + 1, row[j] + 1)
+            if i and j and x == ys[j - 1] and xs[i - 1] == y:
+                least = min(least, rows[i - 1][j - 1] + 1)
+            row.append(least)
+        rows.append(row)
+    return {"last_row": lambda j: rows[-1][j]}
+
+
+def item_at(n, d):
+    """Item n of a JSON array, if it has one."""
+    d = d.arguments[0] if d.name == "array" else Made("no_items")
+    while d.name == "item" and n:
+        d, n = d.arguments[1], n - 1
+    return some(d.arguments[0]) if d.name == "item" else NONE
+
+
+def keys_of(d):
+    """The keys of the members of an object, each as often as it stands there."""
+    return [name for name, _ in members_of(Made("object", (d,)))]
+
+
 # What the toolchain's own library has, by name: how many arguments, and what they give.
 LIBRARY = {
     "not": (1, lambda a: not a), "map": (2, lambda f, xs: [f(x) for x in xs]),
@@ -238,6 +266,10 @@ LIBRARY = {
     "MatchOption": (3, lambda x, none, f: f(x.arguments[0]) if x.name == "Some" else none),
     "one_of": (2, text_of_option), "Appends": (3, appends),
     "All": (2, lambda f, xs: all(f(x) for x in xs)), "AllZip": (3, passes_all),
+    "to_ascii_lowercase": (1, lambda c: c + 32 if 65 <= c <= 90 else c), "osa_table": (2, edits), "at": (2, item_at), "keys": (1, keys_of),
+    "is_ascii_alphanumeric": (1, lambda c: c < 128 and chr(c).isalnum()), "is_ascii_digit": (1, lambda c: 48 <= c <= 57),
+    "starts_with": (3, lambda f, xs, front: xs[:len(front)] == front), "abs_diff": (2, lambda a, b: abs(a - b)),
+    "ends_with": (3, lambda f, xs, back: xs[::-1][:len(back)] == back[::-1]),
     "zip": (2, lambda xs, ys: [(x, y) for x, y in zip(xs, ys)]), "digit_glyph": (2, lambda u, d: in_digits(16, u, d)[0]),
 }
 # What many rows come to again with the same values: computed once for each mutant.
@@ -631,7 +663,7 @@ class Writer:
         inner = node.parts[0]
         if inner.kind == "name" and inner.value not in local:
             paths = self.module.uses.get(inner.value, [])
-            if any(path.endswith("TheVariants") for path in paths):
+            if any(path.endswith(("TheVariants", ".specs.Json")) for path in paths):
                 return f"Made({node.value[0]!r})"
         return f"field({self.term(inner, local)}, {node.value[0]!r})"
 
@@ -653,6 +685,8 @@ class Writer:
             return f"max(0, {left} - {right})"
         if word in "/%":
             return f"(lambda a, b: (a {'//' if word == '/' else '%'} b) if b else {'0' if word == '/' else 'a'})({left}, {right})"
+        if word == ">>=":
+            return f"then({left}, {right})"
         raise Stuck(word)
 
     def of_binder(self, node, local):
@@ -785,6 +819,6 @@ def computed(computer, uses, text):
     code = writer.term(term_of(text), {})
     space = {
         "Stuck": Stuck, "Made": Made, "C": computer, "L": LIBRARY, "V": VALUES, "curried": curried, "applied": applied,
-        "same": same, "field": field_of, "SOME_OF": SOME_OF, "ANY": Any(),
+        "same": same, "field": field_of, "SOME_OF": SOME_OF, "ANY": Any(), "then": then,
     }
     return compile(code, "row", "eval"), space

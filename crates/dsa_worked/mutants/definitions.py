@@ -360,14 +360,15 @@ class Module:
             it.parameters += names.split()
         self.definitions[name] = it
         base = start + len(head) + len("where\n")
-        less = dedent(rest)
+        columns = len(rest) - len(rest.lstrip(" "))
+        less = dedent(rest, columns)
         for first, last in items_of(less):
             part = less[first:last]
             label = re.match(r"(?:pub )?(\S+) : ", part)
             if not label:
                 continue
-            place = original(rest, first + label.end())
-            last_place = original(rest, last)
+            place = original(rest, first + label.end(), columns)
+            last_place = original(rest, last, columns)
             body = rest[place:last_place]
             it.fields.append((label[1], term_of(body, base + place), base + place, base + last_place))
 
@@ -414,15 +415,15 @@ class Module:
         it.end = end
 
 
-def dedent(text):
-    return re.sub(r"(?m)^  ", "", text)
+def dedent(text, columns=2):
+    return re.sub(rf"(?m)^ {{{columns}}}", "", text)
 
 
-def original(text, place):
-    """The place in a text of what is there once each line lost its first two columns."""
+def original(text, place, columns=2):
+    """The place in a text of what is there once each line lost its first columns."""
     lost, at = 0, 0
     for line in text.splitlines(keepends=True):
-        cut = 2 if line.startswith("  ") else 0
+        cut = columns if line.startswith(" " * columns) else 0
         if at + len(line) - cut > place:
             return place + lost + cut
         at, lost = at + len(line) - cut, lost + cut

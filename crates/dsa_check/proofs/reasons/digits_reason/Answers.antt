@@ -1,6 +1,7 @@
 use Rattle.dsa_check.proofs.reasons.digits_reason.Goals.{In-None}
 use Rattle.dsa_check.proofs.reasons.digits_reason.Goals as goal
-use Rattle.std.proofs.Common.{rules, ◌≡◌, ◌<◌, ◌≤◌, ◌≢◌, ◌==◌, ℕ, suc, true, false, Some, None, refl, not, nat_lt, length, arith}
+use Rattle.std.proofs.Common.{rules, ◌≡◌, ◌<◌, ◌≤◌, ◌≢◌, ◌==◌, ℕ, suc, true, false, Some, None}
+use Rattle.std.proofs.Common.{refl, not, nat_lt, length, arith}
 use Rattle.std.proofs.lemmas.Bool.{Decides.{nat_tests}}
 use Rattle.std.proofs.lemmas.Iterator.{Adapters.{YieldsList-from_bytes}, Search.{position_from_yields_List}}
 use Rattle.std.specs.Char.{is_ascii_hexdigit}

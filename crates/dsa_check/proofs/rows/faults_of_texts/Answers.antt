@@ -1,16 +1,19 @@
 use Rattle.dsa_check.proofs.rows.faults_of_texts.Goals as goal
-use Rattle.std.proofs.Common.{◌≡◌, ◌⊎◌, ◌∙◌, ◌==◌, ◌++◌, ◌||◌, ℕ, Bool, false, true, List, [], ◌∷◌, Some, codes, refl, ap, subst, lit≤}
+use Rattle.std.proofs.Common.{◌≡◌, ◌⊎◌, ◌∙◌, ◌==◌, ◌++◌, ◌||◌, ℕ, Bool, false, true, List, [], ◌∷◌}
+use Rattle.std.proofs.Common.{Some, codes, refl, ap, subst, lit≤}
 use Rattle.std.proofs.{Common.{inl, inr, flat_map}, lemmas.List.Folds.{list_any-append}}
 use Rattle.std.specs.List.{list_any}
 use Rattle.std.specs.Prelude.{IsUtf8}
 use Rattle.serde_json.{specs.{Data.{Data}, Read.{read}}, proofs.OnLiterals.{serde_json_on_literals}}
 use Rattle.dsa_regs.specs.Caps.{check_caps}
-use Rattle.dsa_scenario.specs.declared.faults.ScenarioFault.{ScenarioFault, TheVariants.{BadCaps, BadCapacity}}
+use Rattle.dsa_scenario.specs.declared.faults.ScenarioFault.{ScenarioFault, TheVariants.{BadDocument, BadCaps}}
+use Rattle.dsa_scenario.specs.declared.faults.ScenarioFault.TheVariants.{BadCapacity}
 use Rattle.dsa_scenario.specs.Worked.{no_caps_text, smallest_caps, document_text}
 use Rattle.dsa_scenario.proofs.Heads.{document_by, same_caps, same_head}
 use Rattle.dsa_check.specs.declared.finding.{Finding.{Finding}, Reason.{Reason}}
 use Rattle.dsa_check.specs.Lines.{reason_text, fault_part_text, known_number_text, place_text, line_of_finding}
 use Rattle.dsa_check.specs.Lines.{lines_of_finding, finding_text, report_text, warnings_text}
+use Rattle.dsa_check.specs.Check.{first_of, faults_warned}
 use Rattle.dsa_check.specs.Warnings.{AreWarningsOf, warnings_told, warnings_of_value}
 use Rattle.dsa_check.proofs.{Told.{same_value}, Warned.{no_lines}}
 use Rattle.dsa_scenario.specs.Document.{IsJson}
@@ -127,6 +130,20 @@ returns-clause-right_with_a_line c is =
     let none = no_lines is.warnings (no_warning is.warnings is.warned) in
     let lines = rw (none_told is.findings is.all, none) at is.lines in
     absurd cc
+
+pub returns-clause-warning_before_a_fault : goal.returns-clause-warning_before_a_fault
+unfolding serde_json_on_literals
+returns-clause-warning_before_a_fault c text is =
+    let bytes = codes "{\"caps\":{\"z\":0}}" in
+    elim (of_read bytes _ _ refl is.all) [
+      | inl none ↦ none (bytes, (refl, refl))
+      | inr told ↦
+          let warned = faults_warned true is.warnings in
+          let first : Some BadCaps ≡ Some BadDocument =
+          is.first ∙ ap (λ faults. first_of (faults ++ warned)) told
+          in
+          absurd cc
+    ]
 
 -- ---- the name of the capacity has the letter y, in the lines of its fault too
 

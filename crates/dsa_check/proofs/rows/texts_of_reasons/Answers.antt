@@ -6,6 +6,10 @@ pub returns-clause-misspelled : goal.returns-clause-misspelled
 unfolding digits_on_literals
 returns-clause-misspelled c text = refl
 
+pub returns-clause-stray : goal.returns-clause-stray
+unfolding digits_on_literals
+returns-clause-stray c text = refl
+
 pub returns-clause-near : goal.returns-clause-near
 unfolding digits_on_literals
 returns-clause-near c text = refl

@@ -1,23 +1,8 @@
 use Rattle.dsa_cli.proofs.options.form_of.Goals as goal
-use Rattle.std.proofs.Common.{◌∙◌, codes, refl}
-use Rattle.clap.{proofs.WalkLemmas.{one_text-rows}, specs.Matches.{found_of}}
+use Rattle.dsa_cli.proofs.Choices.{chosen, not_chosen}
 
-pub returns-then-get_flag : goal.returns-then-get_flag
-returns-then-get_flag c = record {
-  json = λ has. refl;
-  table = λ has.
-      let held = one_text-rows (found_of c.args.given.now) (codes "json") ∙ has in
-      let no = c.get_flag.ensures.other held in
-      let yes = c.if-get_flag.true in
-      absurd cc;
-}
+pub returns-then-is_given : goal.returns-then-is_given
+returns-then-is_given c = chosen _ _ c.is_given.ensures c.if-is_given.true
 
-pub returns-else-get_flag : goal.returns-else-get_flag
-returns-else-get_flag c = record {
-  json = λ has.
-      let held = one_text-rows (found_of c.args.given.now) (codes "json") ∙ has in
-      let yes = c.get_flag.ensures.value held in
-      let no = c.if-get_flag.false in
-      absurd cc;
-  table = λ has. refl;
-}
+pub returns-else-is_given : goal.returns-else-is_given
+returns-else-is_given c = not_chosen _ _ c.is_given.ensures c.if-is_given.false

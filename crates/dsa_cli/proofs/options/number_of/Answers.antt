@@ -1,6 +1,7 @@
 use Rattle.dsa_cli.proofs.options.number_of.Goals as goal
 use Rattle.std.proofs.Common.{◌≡◌, ◌∙◌, arith, ap, unwrap_or}
-use Rattle.std.specs.Str.Parse.{ParsesUnsigned, ExplainsUnsignedError, HasUnsignedDigitsIfOk, digits_value}
+use Rattle.std.specs.Str.Parse.{ParsesUnsigned, ExplainsUnsignedError, HasUnsignedDigitsIfOk}
+use Rattle.std.specs.Str.Parse.{digits_value}
 use Rattle.std.specs.Str.Parse.{without_leading_plus}
 use Rattle.clap.{proofs.WalkLemmas.{one_text-rows}, specs.Matches.{found_of}}
 use Rattle.dsa_cli.proofs.OptionNumbers.{reads_number}

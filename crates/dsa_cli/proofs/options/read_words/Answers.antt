@@ -1,12 +1,16 @@
 use Rattle.dsa_cli.proofs.options.read_words.Goals as goal
-use Rattle.std.proofs.Common.{◌≡◌, ◌∙◌, List, [], true, false, Option, Some, option_map, codes, map, string_bytes, rules, sym, ap, subst}
+use Rattle.std.proofs.Common.{◌≡◌, ◌∙◌, List, [], true, false, Option, Some, option_map, codes, map}
+use Rattle.std.proofs.Common.{string_bytes, rules, sym, ap, subst}
 use Rattle.std.proofs.Common.{refl, inl, inr, ◌∷◌, length, arith, eqb-true}
 use Rattle.std.specs.Prelude.{◌==◌}
-use Rattle.clap.specs.{Matches.{found_of}, Walk.{Row, Text, rows_of}, Simple.{App, is_simple, subcommand_of, subcommand_rows_of}}
+use Rattle.clap.specs.Matches.{found_of}
+use Rattle.clap.specs.Walk.{Row, Text, rows_of}
+use Rattle.clap.specs.Simple.{App, is_simple, subcommand_of, subcommand_rows_of}
 use Rattle.clap.specs.{Faults.{fault_of, is_simple_and_free}, Kinds.{HasKind}}
 use Rattle.clap.proofs.OnLiterals.{clap_on_literals}
 use Rattle.std.proofs.lemmas.Bool.{cases_lt}
-use Rattle.dsa_cli.specs.{CommandLine.{AskForWorkers, AsksFor, program_app, faults_of_words}, Threads.{IsAskedInRange}}
+use Rattle.dsa_cli.specs.CommandLine.{AskForWorkers, AsksFor, program_app, faults_of_words}
+use Rattle.dsa_cli.specs.Threads.{IsAskedInRange}
 use Rattle.dsa_cli.proofs.OptionNumbers.{name-rows, some_pair}
 
 simple : is_simple program_app ≡ true

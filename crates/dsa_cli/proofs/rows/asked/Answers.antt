@@ -1,25 +1,22 @@
 use Rattle.dsa_cli.proofs.rows.asked.Goals as goal
-use Rattle.std.proofs.Common.{◌≡◌, ◌∙◌, ℕ, List, [], codes, Option, Some, unwrap_or, option_map, inl, inr, refl, sym}
+use Rattle.std.proofs.Common.{◌≡◌, ◌∙◌, List, [], codes, Option, Some, unwrap_or, option_map}
+use Rattle.std.proofs.Common.{inl, inr, refl, sym}
 use Rattle.std.proofs.Common.{ap, subst, arith, lit≤, lit<}
-use Rattle.std.specs.{Str.Parse.{IsNumeral, digits_value, without_leading_plus}, Prelude.{option_and_then}}
-use Rattle.clap.specs.{Walk.{Row, Text, one_of}, declared.error.kind.ErrorKind.TheVariants.{UnknownArgument}}
+use Rattle.std.specs.Str.Parse.{IsNumeral}
+use Rattle.std.specs.Prelude.{option_and_then}
+use Rattle.clap.specs.Walk.{Row, Text, one_of}
+use Rattle.clap.specs.declared.error.kind.ErrorKind.TheVariants.{UnknownArgument}
 use Rattle.clap.proofs.OnLiterals.{clap_on_literals}
 use Rattle.dsa_cli.specs.{CommandLine.{IsReportName}, Worked.{load}}
+use Rattle.dsa_cli.proofs.DecidedLoads.{said_numbers}
 use Rattle.dsa_cli.proofs.ReportNames.{same_first, no_report}
-
--- the number that a text says
-abbrev number_in : Option Text → ℕ
-number_in o = digits_value 10 (without_leading_plus (unwrap_or o []))
 
 -- the name of a command, and the text of an option
 abbrev name_in : Option (Text × List Row) → Text
 name_in found = unwrap_or (option_map (λ (p : Text × List Row). p.0) found) []
 
-abbrev strict_in : Option (Text × List Row) → Option Text
-strict_in found = option_and_then (λ (p : Text × List Row). one_of (codes "strict") p.1) found
-
-abbrev engines_in : Option (Text × List Row) → Option Text
-engines_in found = option_and_then (λ (p : Text × List Row). one_of (codes "engines") p.1) found
+abbrev option_in : Text → Option (Text × List Row) → Option Text
+option_in name found = option_and_then (λ (p : Text × List Row). one_of name p.1) found
 
 pub returns-clause-scenario : goal.returns-clause-scenario
 unfolding clap_on_literals
@@ -44,40 +41,11 @@ returns-clause-no_scenario c other = other (codes "threads") (inr (inr refl)) re
 
 pub returns-clause-threads : goal.returns-clause-threads
 unfolding clap_on_literals
-returns-clause-threads c = (
-  _,
-  (refl, refl),
-  record {
-    clients = λ text has numeral least most. ap number_in has;
-    engines = λ text has numeral least most. ap number_in has;
-    each = λ text has numeral least most. ap number_in has;
-    turns = λ text has numeral least most. ap number_in has;
-    size = λ text has numeral least most. ap number_in has;
-    threshold = λ text has numeral least most. ap number_in has;
-    slots = λ text has numeral least most. ap number_in has;
-    buffers = λ text has numeral least most. ap number_in has;
-  },
-)
+returns-clause-threads c = (_, (refl, refl), said_numbers _ _ refl refl refl refl refl refl refl refl)
 
 pub returns-clause-high_threshold : goal.returns-clause-high_threshold
 unfolding clap_on_literals
-returns-clause-high_threshold c = (
-  (
-    _,
-    (refl, refl),
-    record {
-      clients = λ text has numeral least most. ap number_in has;
-      engines = λ text has numeral least most. ap number_in has;
-      each = λ text has numeral least most. ap number_in has;
-      turns = λ text has numeral least most. ap number_in has;
-      size = λ text has numeral least most. ap number_in has;
-      threshold = λ text has numeral least most. ap number_in has;
-      slots = λ text has numeral least most. ap number_in has;
-      buffers = λ text has numeral least most. ap number_in has;
-    },
-  ),
-  lit< tt,
-)
+returns-clause-high_threshold c = ((_, (refl, refl), said_numbers _ _ refl refl refl refl refl refl refl refl), lit< tt)
 
 pub returns-clause-mistaken_threshold : goal.returns-clause-mistaken_threshold
 returns-clause-mistaken_threshold c =
@@ -88,38 +56,66 @@ returns-clause-threshold_at_the_size c asks = omega (arith, asks.1)
 
 pub returns-clause-check : goal.returns-clause-check
 unfolding clap_on_literals
-returns-clause-check c = (_, (refl, refl, inl refl), (refl, record { strict = λ has. absurd cc; lenient = λ has. refl }))
+returns-clause-check c = (_, (refl, refl, inl refl), (refl, record { given = λ has. absurd cc; left_out = λ has. refl }))
 
 pub returns-clause-strict_check : goal.returns-clause-strict_check
 unfolding clap_on_literals
 returns-clause-strict_check c =
-    (_, (refl, refl, inl refl), (refl, record { strict = λ has. refl; lenient = λ has. absurd cc }))
+    (_, (refl, refl, inl refl), (refl, record { given = λ has. refl; left_out = λ has. absurd cc }))
 
 pub returns-clause-no_plain_check : goal.returns-clause-no_plain_check
 unfolding clap_on_literals
 returns-clause-no_plain_check c asks =
-    let option = ap strict_in asks.1.1 in
-    let same = asks.2.1.strict (sym option) in
+    let option = ap (option_in (codes "strict")) asks.1.1 in
+    let same = asks.2.1.given (sym option) in
     cc
 
 pub returns-clause-no_strict_check : goal.returns-clause-no_strict_check
 unfolding clap_on_literals
 returns-clause-no_strict_check c asks =
-    let option = ap strict_in asks.1.1 in
-    let same = asks.2.1.lenient (sym option) in
+    let option = ap (option_in (codes "strict")) asks.1.1 in
+    let same = asks.2.1.left_out (sym option) in
     cc
 
 pub returns-clause-explain : goal.returns-clause-explain
 unfolding clap_on_literals
-returns-clause-explain c = (_, (refl, refl, inr (inl refl)), refl)
+returns-clause-explain c = (_, (refl, refl, inr (inl refl)), (refl, record { given = λ has. absurd cc; left_out = λ has. refl }))
+
+pub returns-clause-seen_explain : goal.returns-clause-seen_explain
+unfolding clap_on_literals
+returns-clause-seen_explain c =
+    (_, (refl, refl, inr (inl refl)), (refl, record { given = λ has. refl; left_out = λ has. absurd cc }))
+
+pub returns-clause-no_own_explain : goal.returns-clause-no_own_explain
+unfolding clap_on_literals
+returns-clause-no_own_explain c asks =
+    let option = ap (option_in (codes "seen")) asks.1.1 in
+    let same = asks.2.1.given (sym option) in
+    cc
+
+pub returns-clause-count : goal.returns-clause-count
+unfolding clap_on_literals
+returns-clause-count c = (_, (refl, refl, inr (inr (inr (inl refl)))), refl)
 
 pub returns-clause-draw : goal.returns-clause-draw
 unfolding clap_on_literals
-returns-clause-draw c = (_, (refl, refl, inr (inr (inr (inl refl)))), refl)
+returns-clause-draw c = (_, (refl, refl, inr (inr (inr (inr (inl refl))))), (refl, record { given = λ has. absurd cc; left_out = λ has. refl }))
+
+pub returns-clause-seen_draw : goal.returns-clause-seen_draw
+unfolding clap_on_literals
+returns-clause-seen_draw c =
+    (_, (refl, refl, inr (inr (inr (inr (inl refl))))), (refl, record { given = λ has. refl; left_out = λ has. absurd cc }))
+
+pub returns-clause-no_seen_draw : goal.returns-clause-no_seen_draw
+unfolding clap_on_literals
+returns-clause-no_seen_draw c asks =
+    let option = ap (option_in (codes "seen")) asks.1.1 in
+    let same = asks.2.1.left_out (sym option) in
+    cc
 
 pub returns-clause-conform : goal.returns-clause-conform
 unfolding clap_on_literals
-returns-clause-conform c = (_, (refl, refl, inr (inr (inr (inr refl)))), refl)
+returns-clause-conform c = (_, (refl, refl, inr (inr (inr (inr (inr refl))))), refl)
 
 pub returns-clause-serve : goal.returns-clause-serve
 unfolding clap_on_literals
@@ -131,15 +127,39 @@ returns-clause-serve_is_no_scenario c other = other (codes "serve") (inr (inl re
 
 pub returns-clause-draw_is_no_scenario : goal.returns-clause-draw_is_no_scenario
 unfolding clap_on_literals
-returns-clause-draw_is_no_scenario c other = other (codes "draw") (inl (inr (inr (inr (inl refl))))) refl
+returns-clause-draw_is_no_scenario c other = other (codes "draw") (inl (inr (inr (inr (inr (inl refl)))))) refl
 
 pub returns-clause-trace : goal.returns-clause-trace
 unfolding clap_on_literals
-returns-clause-trace c = (_, (refl, refl, inr (inr (inl refl))), (refl, record { json = λ has. absurd cc; table = λ has. refl }))
+returns-clause-trace c = (
+  _,
+  (refl, refl, inr (inr (inl refl))),
+  (refl, record { given = λ has. absurd cc; left_out = λ has. refl }, record { given = λ has. absurd cc; left_out = λ has. refl }),
+)
+
+pub returns-clause-seen_trace : goal.returns-clause-seen_trace
+unfolding clap_on_literals
+returns-clause-seen_trace c = (
+  _,
+  (refl, refl, inr (inr (inl refl))),
+  (refl, record { given = λ has. absurd cc; left_out = λ has. refl }, record { given = λ has. refl; left_out = λ has. absurd cc }),
+)
 
 pub returns-clause-json : goal.returns-clause-json
 unfolding clap_on_literals
-returns-clause-json c = (_, (refl, refl, inr (inr (inl refl))), (refl, record { json = λ has. refl; table = λ has. absurd cc }))
+returns-clause-json c = (
+  _,
+  (refl, refl, inr (inr (inl refl))),
+  (refl, record { given = λ has. refl; left_out = λ has. absurd cc }, record { given = λ has. absurd cc; left_out = λ has. refl }),
+)
+
+pub returns-clause-seen_json : goal.returns-clause-seen_json
+unfolding clap_on_literals
+returns-clause-seen_json c = (
+  _,
+  (refl, refl, inr (inr (inl refl))),
+  (refl, record { given = λ has. refl; left_out = λ has. absurd cc }, record { given = λ has. refl; left_out = λ has. absurd cc }),
+)
 
 pub returns-clause-mistaken : goal.returns-clause-mistaken
 unfolding clap_on_literals
@@ -184,7 +204,7 @@ returns-clause-nothing_is_no_threads c asks = let same = asks.1.1 in cc
 pub returns-clause-other_numbers : goal.returns-clause-other_numbers
 unfolding clap_on_literals
 returns-clause-other_numbers c asks =
-    let has : one_of (codes "engines") asks.0 ≡ Some (codes "3") = ap engines_in (sym asks.1.1) in
+    let has : one_of (codes "engines") asks.0 ≡ Some (codes "3") = ap (option_in (codes "engines")) (sym asks.1.1) in
     let numeral : IsNumeral 10 (codes "3") = (lit< tt, (lit< tt, tt)) in
     omega (arith, asks.2.engines (codes "3") has numeral (lit≤ tt) (lit≤ tt))
 

@@ -1,5 +1,6 @@
 use Rattle.dsa_cli.proofs.rows.endings.Goals as goal
-use Rattle.std.proofs.Common.{inl, inr, refl, arith}
+use Rattle.std.proofs.Common.{◌≡◌, ◌++◌, inl, inr, refl, subst, arith}
+use Rattle.dsa_scenario.specs.Faults.{fault_line}
 
 pub returns-clause-told : goal.returns-clause-told
 returns-clause-told c out old new unclosed taken told = told unclosed taken
@@ -54,3 +55,20 @@ returns-clause-not_of_reading c old new is =
       | inl memory ↦ let same = memory.0 in cc
       | inr write ↦ let same = write.0 in cc
     ]
+
+pub returns-clause-end : goal.returns-clause-end
+returns-clause-end c status out out' err err' is = (is.same_output, is.same_writer, is.quiet, is.statuses)
+
+pub returns-clause-ended : goal.returns-clause-ended
+returns-clause-ended c out old new unclosed taken is = subst (λ fault. new.writer.now ≡ old.writer.now ++ fault_line fault) is.1 (is.2 unclosed taken)
+
+pub returns-clause-first_line_refused : goal.returns-clause-first_line_refused
+returns-clause-first_line_refused c had left old new is =
+    is.1 (λ late. elim late [
+      | inl read ↦ cc
+      | inr rest ↦
+          elim rest [
+            | inl write ↦ cc
+            | inr memory ↦ cc
+          ]
+    ])

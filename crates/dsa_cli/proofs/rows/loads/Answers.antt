@@ -1,29 +1,12 @@
 use Rattle.dsa_cli.proofs.rows.loads.Goals as goal
-use Rattle.std.proofs.Common.{arith, lit≤}
+use Rattle.std.proofs.Common.{arith, refl}
+use Rattle.dsa_cli.proofs.DecidedLoads.{in_range}
 
 pub returns-clause-least : goal.returns-clause-least
-returns-clause-least c = record {
-  clients = (lit≤ tt, lit≤ tt);
-  engines = (lit≤ tt, lit≤ tt);
-  each = (lit≤ tt, lit≤ tt);
-  turns = (lit≤ tt, lit≤ tt);
-  size = (lit≤ tt, lit≤ tt);
-  threshold = (lit≤ tt, lit≤ tt);
-  slots = (lit≤ tt, lit≤ tt);
-  buffers = (lit≤ tt, lit≤ tt);
-}
+returns-clause-least c = in_range _ refl
 
 pub returns-clause-most : goal.returns-clause-most
-returns-clause-most c = record {
-  clients = (lit≤ tt, lit≤ tt);
-  engines = (lit≤ tt, lit≤ tt);
-  each = (lit≤ tt, lit≤ tt);
-  turns = (lit≤ tt, lit≤ tt);
-  size = (lit≤ tt, lit≤ tt);
-  threshold = (lit≤ tt, lit≤ tt);
-  slots = (lit≤ tt, lit≤ tt);
-  buffers = (lit≤ tt, lit≤ tt);
-}
+returns-clause-most c = in_range _ refl
 
 pub returns-clause-no_client : goal.returns-clause-no_client
 returns-clause-no_client c load = omega (arith, load.clients)

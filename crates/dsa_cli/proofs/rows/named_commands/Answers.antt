@@ -1,5 +1,6 @@
 use Rattle.dsa_cli.proofs.rows.named_commands.Goals as goal
-use Rattle.std.proofs.Common.{[], codes, List, Option, unwrap_or, option_map, inl, inr, refl, lit<, ap, arith}
+use Rattle.std.proofs.Common.{[], codes, List, Option, unwrap_or, option_map, inl, inr, refl, lit<}
+use Rattle.std.proofs.Common.{ap, arith}
 use Rattle.clap.{proofs.OnLiterals.{clap_on_literals}, specs.Walk.{Row, Text}}
 use Rattle.dsa_cli.proofs.ReportNames.{same_first, no_report}
 
@@ -7,9 +8,9 @@ use Rattle.dsa_cli.proofs.ReportNames.{same_first, no_report}
 abbrev name_in : Option (Text × List Row) → Text
 name_in found = unwrap_or (option_map (λ (p : Text × List Row). p.0) found) []
 
-pub returns-clause-draw : goal.returns-clause-draw
+pub returns-clause-count : goal.returns-clause-count
 unfolding clap_on_literals
-returns-clause-draw c = (refl, refl, inr (inr (inr (inl refl))))
+returns-clause-count c = (refl, refl, inr (inr (inr (inl refl))))
 
 pub returns-clause-help_with_draw : goal.returns-clause-help_with_draw
 unfolding clap_on_literals
@@ -45,3 +46,27 @@ returns-clause-help_with_serve c named = let same = named.0 in cc
 pub returns-clause-no_serve : goal.returns-clause-no_serve
 unfolding clap_on_literals
 returns-clause-no_serve c named = let same = named.1 in cc
+
+pub returns-clause-no_input_for_threads : goal.returns-clause-no_input_for_threads
+unfolding clap_on_literals
+returns-clause-no_input_for_threads c = inr (_, (refl, refl))
+
+pub returns-clause-no_input_for_help : goal.returns-clause-no_input_for_help
+unfolding clap_on_literals
+returns-clause-no_input_for_help c = inl (λ same. cc)
+
+pub returns-clause-input : goal.returns-clause-input
+unfolding clap_on_literals
+returns-clause-input c unread =
+    elim unread [
+      | inl some ↦ some refl
+      | inr threads ↦ let same = threads.1.1 in cc
+    ]
+
+pub returns-clause-input_for_draw : goal.returns-clause-input_for_draw
+unfolding clap_on_literals
+returns-clause-input_for_draw c unread =
+    elim unread [
+      | inl some ↦ some refl
+      | inr threads ↦ omega (arith, same_first (ap name_in threads.1.1))
+    ]

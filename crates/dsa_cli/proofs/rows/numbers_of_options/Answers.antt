@@ -1,7 +1,9 @@
 use Rattle.dsa_cli.proofs.rows.numbers_of_options.Goals as goal
-use Rattle.std.proofs.Common.{◌≡◌, ◌<◌, ◌≤◌, ℕ, [], codes, Option, unwrap_or, refl, lit≤, lit<, ap, sym, subst, arith}
+use Rattle.std.proofs.Common.{◌≡◌, ◌<◌, ◌≤◌, ℕ, [], codes, Option, unwrap_or, refl, lit≤, lit<, ap}
+use Rattle.std.proofs.Common.{sym, subst, arith}
 use Rattle.std.specs.Str.Parse.{IsNumeral, digits_value, without_leading_plus}
 use Rattle.clap.{proofs.OnLiterals.{clap_on_literals}, specs.Walk.{Text}}
+use Rattle.dsa_cli.proofs.DecidedLoads.{numbers_of}
 
 -- the number that a text says
 abbrev number_in : Option Text → ℕ
@@ -39,72 +41,42 @@ returns-clause-no_number c text has numeral least most =
     let low : 10 < 10 = digits.1.1.0 in
     absurd (omega (arith, low))
 
-pub returns-clause-many_clients : goal.returns-clause-many_clients
+pub returns-clause-says : goal.returns-clause-says
 unfolding clap_on_literals
-returns-clause-many_clients c = record {
-  clients = λ text has numeral least most. past_bound 17 16 text (lit< tt) (ap number_in has) most;
-  engines = λ text has. absurd cc;
-  each = λ text has. absurd cc;
-  turns = λ text has. absurd cc;
-  size = λ text has. absurd cc;
-  threshold = λ text has. absurd cc;
-  slots = λ text has. absurd cc;
-  buffers = λ text has. absurd cc;
-}
+returns-clause-says c = (codes "7", refl, (lit< tt, (lit< tt, tt)), refl, lit≤ tt, lit≤ tt)
 
-pub returns-clause-many_engines : goal.returns-clause-many_engines
+pub returns-clause-says_no_other : goal.returns-clause-says_no_other
 unfolding clap_on_literals
-returns-clause-many_engines c = record {
-  clients = λ text has. absurd cc;
-  engines = λ text has numeral least most. past_bound 9 8 text (lit< tt) (ap number_in has) most;
-  each = λ text has. absurd cc;
-  turns = λ text has. absurd cc;
-  size = λ text has. absurd cc;
-  threshold = λ text has. absurd cc;
-  slots = λ text has. absurd cc;
-  buffers = λ text has. absurd cc;
-}
+returns-clause-says_no_other c says = omega (arith, ap number_in says.1, says.3)
 
-pub returns-clause-much_each : goal.returns-clause-much_each
+pub returns-clause-says_no_bound : goal.returns-clause-says_no_bound
 unfolding clap_on_literals
-returns-clause-much_each c = record {
-  clients = λ text has. absurd cc;
-  engines = λ text has. absurd cc;
-  each = λ text has numeral least most. past_bound 1_001 1_000 text (lit< tt) (ap number_in has) most;
-  turns = λ text has. absurd cc;
-  size = λ text has. absurd cc;
-  threshold = λ text has. absurd cc;
-  slots = λ text has. absurd cc;
-  buffers = λ text has. absurd cc;
-}
+returns-clause-says_no_bound c n says = omega (arith, ap number_in says.1, says.3, says.5)
 
-pub returns-clause-many_turns : goal.returns-clause-many_turns
+pub returns-clause-says_high : goal.returns-clause-says_high
 unfolding clap_on_literals
-returns-clause-many_turns c = record {
-  clients = λ text has. absurd cc;
-  engines = λ text has. absurd cc;
-  each = λ text has. absurd cc;
-  turns = λ text has numeral least most. past_bound 40_001 40_000 text (lit< tt) (ap number_in has) most;
-  size = λ text has. absurd cc;
-  threshold = λ text has. absurd cc;
-  slots = λ text has. absurd cc;
-  buffers = λ text has. absurd cc;
-}
+returns-clause-says_high c = (
+  4,
+  5,
+  (codes "4", refl, (lit< tt, (lit< tt, tt)), refl, lit≤ tt, lit≤ tt),
+  (codes "5", refl, (lit< tt, (lit< tt, tt)), refl, lit≤ tt, lit≤ tt),
+  lit< tt,
+)
 
-pub returns-clause-few_buffers : goal.returns-clause-few_buffers
+pub returns-clause-says_the_size : goal.returns-clause-says_the_size
 unfolding clap_on_literals
-returns-clause-few_buffers c = record {
-  clients = λ text has. absurd cc;
-  engines = λ text has. absurd cc;
-  each = λ text has. absurd cc;
-  turns = λ text has. absurd cc;
-  size = λ text has. absurd cc;
-  threshold = λ text has. absurd cc;
-  slots = λ text has. absurd cc;
-  buffers = λ text has numeral least most.
-      let is : 3 ≡ digits_value 10 (without_leading_plus text) = ap number_in has in
-      absurd (omega (arith, is, least));
-}
+returns-clause-says_the_size c says =
+    omega (arith, ap number_in says.2.1, says.2.3, ap number_in says.3.1, says.3.3, says.4)
+
+pub returns-clause-past_bounds : goal.returns-clause-past_bounds
+unfolding clap_on_literals
+returns-clause-past_bounds c = (
+  numbers_of _ _ refl,
+  numbers_of _ _ refl,
+  numbers_of _ _ refl,
+  numbers_of _ _ refl,
+  numbers_of _ _ refl,
+)
 
 pub returns-clause-all : goal.returns-clause-all
 returns-clause-all c rows asked numbers = (

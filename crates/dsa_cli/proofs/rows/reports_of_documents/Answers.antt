@@ -6,6 +6,9 @@ returns-clause-no_explanation c bytes text is = let same = is.0 in cc
 pub returns-clause-no_trace : goal.returns-clause-no_trace
 returns-clause-no_trace c bytes text is = let same = is.0 in cc
 
+pub returns-clause-no_totals : goal.returns-clause-no_totals
+returns-clause-no_totals c bytes text is = let same = is.0 in cc
+
 pub returns-clause-no_drawing : goal.returns-clause-no_drawing
 returns-clause-no_drawing c bytes text is = let same = is.0 in cc
 
@@ -18,8 +21,23 @@ returns-clause-explanation c bytes text is = is.1
 pub returns-clause-trace : goal.returns-clause-trace
 returns-clause-trace c bytes text is = is.1
 
+pub returns-clause-totals : goal.returns-clause-totals
+returns-clause-totals c bytes text is = is.1
+
 pub returns-clause-drawing : goal.returns-clause-drawing
 returns-clause-drawing c bytes text is = is.1
 
 pub returns-clause-conformance : goal.returns-clause-conformance
 returns-clause-conformance c bytes text is = is
+
+pub returns-clause-no_seen_explanation : goal.returns-clause-no_seen_explanation
+returns-clause-no_seen_explanation c bytes text is = is.verdict
+
+pub returns-clause-seen_explanation : goal.returns-clause-seen_explanation
+returns-clause-seen_explanation c bytes text is = is
+
+pub returns-clause-seen_trace : goal.returns-clause-seen_trace
+returns-clause-seen_trace c bytes text is = is
+
+pub returns-clause-seen_drawing : goal.returns-clause-seen_drawing
+returns-clause-seen_drawing c bytes text is = is

@@ -1,5 +1,7 @@
 use Rattle.dsa_cli.proofs.rows.reports_written.Goals as goal
 use Rattle.dsa_cli.specs.declared.reports.Report.TheVariants as report
+use Rattle.dsa_cli.specs.declared.reports.Run.TheVariants.{Own}
+use Rattle.clap.proofs.OnLiterals.{clap_on_literals}
 use Rattle.std.proofs.Common.{Some, None, refl, sym, append-nil}
 use Rattle.dsa_scenario.specs.declared.faults.ScenarioFault.TheVariants.{BadCaps}
 
@@ -11,15 +13,23 @@ returns-clause-first_bytes c bytes text is short more =
     (bytes, text, Some BadCaps, 3, (sym (append-nil bytes), refl, short), is, more, refl)
 
 pub returns-clause-drawing : goal.returns-clause-drawing
-returns-clause-drawing c bytes text is short =
-    (report.Draw, refl, (bytes, text, (sym (append-nil bytes), refl, short), (refl, is), refl))
+unfolding clap_on_literals
+returns-clause-drawing c bytes text is short = (
+  report.Draw Own,
+  (refl, record { given = λ has. absurd cc; left_out = λ has. refl }),
+  (bytes, text, (sym (append-nil bytes), refl, short), (refl, is), refl),
+)
 
 pub returns-clause-reported : goal.returns-clause-reported
 returns-clause-reported c found had left held holds is = (is.1, is.2)
 
 pub returns-clause-drawing_cut : goal.returns-clause-drawing_cut
-returns-clause-drawing_cut c bytes text is short more =
-    (report.Draw, refl, (bytes, text, None, 3, (sym (append-nil bytes), refl, short), (refl, is), more, refl))
+unfolding clap_on_literals
+returns-clause-drawing_cut c bytes text is short more = (
+  report.Draw Own,
+  (refl, record { given = λ has. absurd cc; left_out = λ has. refl }),
+  (bytes, text, None, 3, (sym (append-nil bytes), refl, short), (refl, is), more, refl),
+)
 
 pub returns-clause-cut : goal.returns-clause-cut
 returns-clause-cut c found had left held holds is = (is.1, is.2)

@@ -1,5 +1,6 @@
 use Rattle.dsa_cli.proofs.rows.scripts_of_a_run.Goals as goal
-use Rattle.std.proofs.Common.{◌≡◌, ◌+◌, ℕ, List, [], ◌∷◌, length, replicate, refl, ap, sym, subst, arith}
+use Rattle.std.proofs.Common.{◌≡◌, ◌+◌, ℕ, List, [], ◌∷◌, length, replicate, refl, ap, sym, subst}
+use Rattle.std.proofs.Common.{arith}
 use Rattle.std.specs.{Prelude.{All, slice_index_or}, Global.{Vec}}
 use Rattle.std.proofs.lemmas.List.Elements.{All-from_recursion}
 use Rattle.dsa_desc.specs.declared.Descriptor.{Descriptor}

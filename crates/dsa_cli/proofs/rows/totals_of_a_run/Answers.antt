@@ -5,20 +5,26 @@ use Rattle.std.proofs.Common.{◌≡◌, ◌≤◌, ℕ, true, List, [], ◌∷�
 use Rattle.std.specs.Prelude.{All, Option, Some, is_some, slice_index_or}
 use Rattle.std.proofs.lemmas.List.Elements.{All-from_recursion}
 use Rattle.dsa_store.specs.Content.{held_count}
-use Rattle.dsa_book.specs.declared.answer.{DispatchAnswer.TheVariants.{Taken}, FetchAnswer.TheVariants.{NoBatch}}
-use Rattle.dsa_book.specs.declared.answer.{StartAnswer.TheVariants.{Nothing}, FinishAnswer.TheVariants.{Done}}
+use Rattle.dsa_book.specs.declared.answer.DispatchAnswer.TheVariants.{Taken}
+use Rattle.dsa_book.specs.declared.answer.FetchAnswer.TheVariants.{NoBatch}
+use Rattle.dsa_book.specs.declared.answer.StartAnswer.TheVariants.{Nothing}
+use Rattle.dsa_book.specs.declared.answer.FinishAnswer.TheVariants.{Done}
 use Rattle.dsa_book.specs.declared.event.{Actor.TheVariants.{Client, Engine}, Step.{Step}}
 use Rattle.dsa_book.specs.{Machine.{is_legal}, Totals.{steps_of_actor, total_accepted}}
 use Rattle.dsa_device.specs.Running.{after_answer}
 use Rattle.dsa_shared.specs.Seat.{SeatLog, fresh}
 use Rattle.dsa_scenario.specs.Worked.{record_ticket}
-use Rattle.dsa_workers.specs.Calls.{InOrder, IsCallAnswered, NextSubmission, NextTurn, found_full, calls_of}
+use Rattle.dsa_workers.specs.Calls.{InOrder, IsCallAnswered, NextSubmission, NextTurn, found_full}
+use Rattle.dsa_workers.specs.Calls.{calls_of}
 use Rattle.dsa_workers.specs.declared.scripts.ClientStep.{ClientStep}
 use Rattle.dsa_workers.specs.declared.scripts.WorkerEnd.TheVariants.{ScriptDone, TurnsOut}
-use Rattle.dsa_workers.proofs.{Answered.{answered_after, device_of}, Calls.{in_order_none, in_order_more}}
-use Rattle.dsa_cli.specs.Threads.{RanAsClient, RanAsEngine, Submits, caps_for, engine_script, setup_steps}
+use Rattle.dsa_workers.proofs.Answered.{answered_after, device_of}
+use Rattle.dsa_workers.proofs.Calls.{in_order_none, in_order_more}
+use Rattle.dsa_cli.specs.Threads.{RanAsClient, RanAsEngine, Submits, caps_for, engine_script}
+use Rattle.dsa_cli.specs.Threads.{setup_steps}
 use Rattle.dsa_cli.specs.Threads.{submission_of}
-use Rattle.dsa_cli.specs.Worked.{load, move_under, move_taken_in, three_moves, entry_worked_off, steps_of_three_moves}
+use Rattle.dsa_cli.specs.Worked.{load, move_under, move_taken_in, three_moves, entry_worked_off}
+use Rattle.dsa_cli.specs.Worked.{steps_of_three_moves}
 use Rattle.dsa_cli.specs.Worked.{client_seats_after, engine_seats_after}
 use Rattle.dsa_cli.proofs.FewNumbers.{below_one, below_two}
 

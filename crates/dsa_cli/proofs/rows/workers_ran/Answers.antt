@@ -1,20 +1,26 @@
 use Rattle.dsa_cli.proofs.rows.workers_ran.Goals as goal
-use Rattle.std.proofs.Common.{inl, inr, ◌≡◌, ◌≢◌, ◌<◌, ◌⊎◌, ℕ, List, Bool, true, false, cond, length}
+use Rattle.std.proofs.Common.{inl, inr, ◌≡◌, ◌≢◌, ◌<◌, ◌⊎◌, ℕ, List, Bool, true, false, cond}
+use Rattle.std.proofs.Common.{length}
 use Rattle.std.proofs.Common.{refl, ap, subst, ◌∙◌, get_or, take, arith}
 use Rattle.std.proofs.lemmas.{Bool.{cases_Bool, cases_lt}, List.Sums.{get_or-le-sum_by}}
 use Rattle.dsa_book.specs.declared.answer.Reply.{Reply}
 use Rattle.dsa_book.specs.declared.answer.Reply.TheVariants.{Submit}
-use Rattle.dsa_book.specs.declared.answer.SubmitAnswer.{SubmitAnswer, TheVariants.{Accepted, Retry, Dropped, Full}}
+use Rattle.dsa_book.specs.declared.answer.SubmitAnswer.{SubmitAnswer}
+use Rattle.dsa_book.specs.declared.answer.SubmitAnswer.TheVariants.{Accepted, Retry, Dropped, Full}
 use Rattle.dsa_book.specs.declared.event.Event.{Event}
-use Rattle.dsa_book.specs.declared.event.{Kind.TheVariants.{Enqcmd}, Portal.TheVariants.{Limited}, Step.{Step}}
+use Rattle.dsa_book.specs.declared.event.Kind.TheVariants.{Enqcmd}
+use Rattle.dsa_book.specs.declared.event.Portal.TheVariants.{Limited}
+use Rattle.dsa_book.specs.declared.event.Step.{Step}
 use Rattle.dsa_book.specs.Machine.{is_stored, stored_steps}
 use Rattle.dsa_regs.specs.declared.Caps.{Caps}
 use Rattle.dsa_shared.specs.{Seat.{SeatLog, fresh}, Locked.{IsAnsweredFor}}
-use Rattle.dsa_workers.specs.Calls.{is_history_full, steps_done, found_full, submission_of_client_step}
+use Rattle.dsa_workers.specs.Calls.{is_history_full, steps_done, found_full}
+use Rattle.dsa_workers.specs.Calls.{submission_of_client_step}
 use Rattle.dsa_workers.proofs.Answered.{answer_has}
 use Rattle.dsa_workers.specs.declared.scripts.ClientStep.{ClientStep}
 use Rattle.dsa_workers.specs.declared.scripts.WorkerEnd.{WorkerEnd}
-use Rattle.dsa_workers.specs.declared.scripts.WorkerEnd.TheVariants.{ScriptDone, TurnsOut, HistoryFull}
+use Rattle.dsa_workers.specs.declared.scripts.WorkerEnd.TheVariants.{ScriptDone, TurnsOut}
+use Rattle.dsa_workers.specs.declared.scripts.WorkerEnd.TheVariants.{HistoryFull}
 use Rattle.dsa_cli.specs.declared.options.Workload.{Workload}
 use Rattle.dsa_cli.specs.Threads.{RanAsClient, RanAsEngine}
 use Rattle.dsa_cli.specs.Worked.{load, page_move_bytes, two_retries}

@@ -1,6 +1,7 @@
 use Rattle.dsa_cli.proofs.threads.client_script.Goals as goal
 use Rattle.std.proofs.Common.{◌∙◌, List, ap, length, sym, subst, All}
-use Rattle.std.proofs.lemmas.{List.{length-replicate, Elements.{All-replicate}}, Result.{IfOk-weaker}}
+use Rattle.std.proofs.lemmas.List.{length-replicate, Elements.{All-replicate}}
+use Rattle.std.proofs.lemmas.Result.{IfOk-weaker}
 use Rattle.dsa_workers.specs.declared.scripts.ClientStep.{ClientStep}
 use Rattle.dsa_cli.specs.Threads.{IsClientScript, Submits}
 

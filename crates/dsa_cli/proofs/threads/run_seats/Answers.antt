@@ -1,6 +1,8 @@
 use Rattle.dsa_cli.proofs.threads.run_seats.Goals as goal
-use Rattle.std.proofs.Common.{◌≡◌, ◌≢◌, ◌+◌, ◌++◌, ◌∙◌, ap, true, List, [], refl, rules, subst, arith}
-use Rattle.dsa_workers.specs.declared.scripts.WorkerEnd.{WorkerEnd, TheVariants.{TurnsOut, HistoryFull}}
+use Rattle.std.proofs.Common.{◌≡◌, ◌≢◌, ◌+◌, ◌++◌, ◌∙◌, ap, true, List, [], refl, rules, subst}
+use Rattle.std.proofs.Common.{arith}
+use Rattle.dsa_workers.specs.declared.scripts.WorkerEnd.{WorkerEnd}
+use Rattle.dsa_workers.specs.declared.scripts.WorkerEnd.TheVariants.{TurnsOut, HistoryFull}
 use Rattle.std.specs.Prelude.{All}
 use Rattle.dsa_cli.{specs.Threads.{setup_steps}, proofs.ThreadTotals.{have_worked}}
 use Rattle.dsa_book.specs.declared.event.Step.{Step}

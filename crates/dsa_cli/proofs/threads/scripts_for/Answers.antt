@@ -1,5 +1,6 @@
 use Rattle.dsa_cli.proofs.threads.scripts_for.Goals as goal
-use Rattle.std.{proofs.Common.{◌≡◌, ◌+◌, ◌<◌, ℕ, List, length, get_or, rules, sym, subst}, specs.Global.{Vec}}
+use Rattle.std.proofs.Common.{◌≡◌, ◌+◌, ◌<◌, ℕ, List, length, get_or, rules, sym, subst}
+use Rattle.std.specs.Global.{Vec}
 use Rattle.dsa_workers.specs.declared.scripts.ClientStep.{ClientStep}
 use Rattle.dsa_cli.{specs.Threads.{IsClientScript}, proofs.Pushes.{each-pushed}}
 

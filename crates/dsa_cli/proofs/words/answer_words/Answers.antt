@@ -1,12 +1,14 @@
 use Rattle.dsa_cli.proofs.words.answer_words.Goals as goal
 use Rattle.dsa_cli.specs.declared.options.Asked.TheVariants as asked
 use Rattle.dsa_cli.specs.declared.threads.ThreadsFault.TheVariants as threads_fault
-use Rattle.std.proofs.Common.{◌≡◌, inl, inr, rules, subst, sym, map, string_bytes, arith}
+use Rattle.std.proofs.Common.{◌≡◌, ◌∙◌, inl, inr, rules, subst, sym, map, string_bytes, arith}
 use Rattle.clap.specs.{Values.{kind_of}, Kinds.{IsAmong}}
 use Rattle.dsa_scenario.specs.declared.faults.ScenarioFault.TheVariants.{OutOfMemory}
-use Rattle.dsa_scenario.specs.{declared.watched.WatchedWriter.{WatchedWriter}, Watched.{watched_contents}}
+use Rattle.dsa_scenario.specs.declared.watched.WatchedWriter.{WatchedWriter}
+use Rattle.dsa_scenario.specs.Watched.{watched_contents}
 use Rattle.dsa_serve.{specs.Dialogue.{IsStopped}, proofs.Stops.{unread_memory}}
-use Rattle.dsa_cli.{specs.CommandLine.{AsksFor, IsAskedBy}, proofs.ReportCommands.{named, not_asked, same_found}}
+use Rattle.dsa_cli.specs.CommandLine.{AsksFor, IsAskedBy}
+use Rattle.dsa_cli.proofs.ReportCommands.{asks_high, named, not_asked, same_found}
 use Rattle.dsa_cli.proofs.PlainRuns.{plain_written, plain_stopped}
 
 pub returns-in-Err-clause-mistake : goal.returns-in-Err-clause-mistake
@@ -93,10 +95,15 @@ returns-in-Err-clause-serve_failed g c one named =
           let had = g.R.Read.remaining c.args.reader.now in
           let held = g.O.Write.contents c.args.out.now.writer.now in (
             OutOfMemory,
-            subst (λ (w : WatchedWriter g.row.O.Denot). IsStopped OutOfMemory had had held (g.O.Write.contents w.writer.now)) (sym kept.1)
-                (unread_memory had held),
-            λ early. kept.1,
-            λ e. absurd cc,
+            (
+              (
+                subst (λ (w : WatchedWriter g.row.O.Denot). IsStopped OutOfMemory had had held
+                    (g.O.Write.contents w.writer.now))
+                    (sym kept.1) (unread_memory had held),
+                λ early. kept.1,
+              ),
+              λ e. absurd cc,
+            ),
             c.show.ensures.told memory,
           )
       | inr among ↦ absurd (subst (λ faults. IsAmong (kind_of c.in-Err.error) faults) named.0 among)
@@ -109,7 +116,7 @@ pub returns-in-Ok-Scenario-clause-failed : goal.returns-in-Ok-Scenario-clause-fa
 returns-in-Ok-Scenario-clause-failed g c plain one =
     let told = c.write_text.ensures.failed one in
     let stopped = plain_stopped _ _ _ (watched_contents g.O.Write.contents) _ _ _ told.1 in
-    (told.0, stopped.0, stopped.1, told.2)
+    (told.0, stopped, told.2)
 
 pub returns-in-Ok-Report-clause-done : goal.returns-in-Ok-Report-clause-done
 returns-in-Ok-Report-clause-done g c plain zero =
@@ -152,10 +159,46 @@ pub returns-in-Err-clause-failed : goal.returns-in-Err-clause-failed
 returns-in-Err-clause-failed g c plain one =
     elim c.in-Err.ensures.faults [
       | inl memory ↦
-          let kept = c.show.ensures.memory memory in
-          (OutOfMemory, (tt, (λ other. kept.1), (λ e. absurd cc)), (λ e. absurd cc), c.show.ensures.told memory)
+          let kept = c.show.ensures.memory memory in (
+            OutOfMemory,
+            ((tt, (λ other. kept.1), (λ e. absurd cc)), λ e. absurd cc),
+            c.show.ensures.told memory,
+          )
       | inr among ↦ absurd (subst (λ faults. IsAmong (kind_of c.in-Err.error) faults) (named _ _ (λ empty. let never = c.in-Err.ensures.none empty in cc) plain).0 among)
     ]
 
 pub returns-in-Err-clause-help_failed : goal.returns-in-Err-clause-help_failed
 returns-in-Err-clause-help_failed g c one faulty = c.show.ensures.failed one
+
+pub returns-in-Ok-Scenario-clause-high_threshold : goal.returns-in-Ok-Scenario-clause-high_threshold
+returns-in-Ok-Scenario-clause-high_threshold g c rows named high =
+    let is = asks_high _ _ rows named high c.in-Ok-Scenario.ensures.asked c.in-Ok-Scenario.ensures.range in
+    let same = sym c.in-Ok-Scenario.field-0-is ∙ is.1 in
+    absurd cc
+
+pub returns-in-Ok-Report-clause-high_threshold : goal.returns-in-Ok-Report-clause-high_threshold
+returns-in-Ok-Report-clause-high_threshold g c rows named high =
+    let is = asks_high _ _ rows named high c.in-Ok-Report.ensures.asked c.in-Ok-Report.ensures.range in
+    let same = sym c.in-Ok-Report.field-0-is ∙ is.1 in
+    absurd cc
+
+pub returns-in-Ok-Serve-clause-high_threshold : goal.returns-in-Ok-Serve-clause-high_threshold
+returns-in-Ok-Serve-clause-high_threshold g c rows named high =
+    let is = asks_high _ _ rows named high c.in-Ok-Serve.ensures.asked c.in-Ok-Serve.ensures.range in
+    let same = sym c.in-Ok-Serve.field-0-is ∙ is.1 in
+    absurd cc
+
+pub returns-in-Ok-Threads-clause-high_threshold : goal.returns-in-Ok-Threads-clause-high_threshold
+returns-in-Ok-Threads-clause-high_threshold g c rows named high =
+    let is = asks_high _ _ rows named high c.in-Ok-Threads.ensures.asked c.in-Ok-Threads.ensures.range in
+    let same = sym c.in-Ok-Threads.field-0-is ∙ is.1 in
+    absurd cc
+
+pub returns-in-Err-clause-high_threshold : goal.returns-in-Err-clause-high_threshold
+returns-in-Err-clause-high_threshold g c rows named high =
+    elim c.in-Err.ensures.faults [
+      | inl memory ↦
+          let kept = c.show.ensures.memory memory in
+          inr (kept.0, kept.1, c.show.ensures.told memory)
+      | inr among ↦ absurd (subst (λ faults. IsAmong (kind_of c.in-Err.error) faults) named.0 among)
+    ]

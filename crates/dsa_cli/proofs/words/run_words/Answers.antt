@@ -15,7 +15,7 @@ returns-clause-threads g c zero rows named =
 pub returns-clause-failed : goal.returns-clause-failed
 returns-clause-failed g c plain one =
     let told = c.answer_words.ensures.failed plain one in
-    let stopped = told.1 in (
+    let stopped = told.1.0 in (
       told.0,
       (
         stopped.0,
@@ -68,7 +68,9 @@ returns-clause-reports_failed g c one found named =
     let told = c.answer_words.ensures.reports_failed one found named in (
       told.0,
       elim told.1 [
-        | inl all ↦ inl (search (rules, all))
+        | inl all ↦
+            let more = all.2.4 in
+            inl (all.0, all.1, (all.2.0, all.2.1, all.2.2, all.2.3, search (rules, more)))
         | inr none ↦
             let stopped = none.0 in
             inr (
@@ -100,11 +102,23 @@ returns-clause-serves g c zero named =
 pub returns-clause-serve_failed : goal.returns-clause-serve_failed
 returns-clause-serve_failed g c one named =
     let told = c.answer_words.ensures.serve_failed one named in
-    let stopped = told.1 in (
+    let stopped = told.1.0.0 in (
       told.0,
-      search (rules, stopped),
-      λ early.
-          let same : c.answer_words.new.out.writer.now ≡ c.args.out.now =
-          ap (λ watched. watched.writer.now) (told.2 early) ∙ c.new-out.ensures.writer in
-          search rules,
+      (
+        search (rules, stopped),
+        λ early.
+            let same : c.answer_words.new.out.writer.now ≡ c.args.out.now =
+            ap (λ watched. watched.writer.now) (told.1.0.1 early) ∙ c.new-out.ensures.writer in
+            search rules,
+      ),
     )
+
+pub returns-clause-high_threshold : goal.returns-clause-high_threshold
+returns-clause-high_threshold g c rows named high =
+    elim (c.answer_words.ensures.high_threshold rows named high) [
+      | inl two ↦ inl two
+      | inr memory ↦
+          let same : c.answer_words.new.out.writer.now ≡ c.args.out.now =
+          ap (λ watched. watched.writer.now) memory.1 ∙ c.new-out.ensures.writer in
+          inr (memory.0, search rules)
+    ]

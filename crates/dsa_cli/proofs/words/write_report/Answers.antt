@@ -1,68 +1,113 @@
 use Rattle.dsa_cli.proofs.words.write_report.Goals as goal
-use Rattle.dsa_cli.specs.declared.reports.Report.TheVariants.{Check, Explain, Draw, Conform}
-use Rattle.std.proofs.Common.{refl, inr}
+use Rattle.dsa_cli.specs.declared.reports.Report.TheVariants.{Check, Explain, Trace, Count, Draw, Conform}
+use Rattle.dsa_cli.specs.declared.reports.Run.TheVariants.{Own, Seen}
+use Rattle.std.proofs.Common.{Err, ap, inl, inr, refl}
 use Rattle.dsa_scenario.specs.Watched.{watched_contents}
 use Rattle.dsa_cli.specs.Reports.{IsReportCutShort, IsReportBegun}
-use Rattle.dsa_cli.proofs.OnTheWay.{whole_or_not}
+use Rattle.dsa_cli.proofs.OnTheWay.{memory_or_not, ended_whole}
 
 pub returns-in-Check-clause-done : goal.returns-in-Check-clause-done
 returns-in-Check-clause-done g c zero = rw c.in-Check.is (c.write_text.ensures.done zero)
 
 pub returns-in-Check-clause-failed : goal.returns-in-Check-clause-failed
 returns-in-Check-clause-failed g c one =
-    let told = c.write_text.ensures.failed one in
-    rw c.in-Check.is (
-      told.0,
-      whole_or_not told.0 (IsReportCutShort (Check c.in-Check.check)) (IsReportBegun (Check c.in-Check.check)) _ _
-          (watched_contents g.O.Write.contents) _ _ told.1,
-      told.2,
+    let failed = c.write_text.ensures.failed one in
+    rw c.in-Check.is
+    (ended_whole (IsReportCutShort (Check c.in-Check.check)) (IsReportBegun (Check c.in-Check.check)) _ _
+    (watched_contents g.O.Write.contents) _ _ failed)
+
+pub returns-in-Own-clause-done : goal.returns-in-Own-clause-done
+returns-in-Own-clause-done g c zero = rw (c.in-Explain.is, c.in-Own.is) (c.write_text-in-Own.ensures.done zero)
+
+pub returns-in-Own-clause-failed : goal.returns-in-Own-clause-failed
+returns-in-Own-clause-failed g c one =
+    let failed = c.write_text-in-Own.ensures.failed one in
+    rw (c.in-Explain.is, c.in-Own.is)
+    (ended_whole (IsReportCutShort (Explain Own)) (IsReportBegun (Explain Own)) _ _
+    (watched_contents g.O.Write.contents) _ _ failed)
+
+pub returns-in-Seen-clause-done : goal.returns-in-Seen-clause-done
+returns-in-Seen-clause-done g c zero = rw (c.in-Explain.is, c.in-Seen.is) (c.write_text-in-Seen.ensures.done zero)
+
+pub returns-in-Seen-clause-failed : goal.returns-in-Seen-clause-failed
+returns-in-Seen-clause-failed g c one =
+    let failed = c.write_text-in-Seen.ensures.failed one in
+    rw (c.in-Explain.is, c.in-Seen.is)
+    (ended_whole (IsReportCutShort (Explain Seen)) (IsReportBegun (Explain Seen)) _ _
+    (watched_contents g.O.Write.contents) _ _ failed)
+
+pub returns-in-Ok-clause-done : goal.returns-in-Ok-clause-done
+returns-in-Ok-clause-done g c zero =
+    let done = c.in-Ok.ensures.ok in
+    rw (c.in-Trace.is, c.in-Own-run.is) (done.0, done.1, done.2, (refl, done.3), done.4)
+
+pub returns-in-Err-clause-failed : goal.returns-in-Err-clause-failed
+returns-in-Err-clause-failed g c one =
+    rw (c.in-Trace.is, c.in-Own-run.is) (
+      c.in-Err.fault,
+      inr (
+        (
+          c.in-Err.ensures.fault,
+          λ other. elim (memory_or_not c.in-Err.fault) [
+            | inl memory ↦ elim (c.in-Err.ensures.lines (ap Err memory)) [
+              | inl kept ↦ inl kept
+              | inr lines ↦ inr (memory, lines)
+            ]
+            | inr more ↦ inl (c.in-Err.ensures.nothing other more)
+          ],
+          λ e. c.in-Err.ensures.prefix (ap Err e),
+        ),
+        λ e. c.in-Err.ensures.writer.refused.0 (ap Err e),
+      ),
+      c.tell_reader.ensures.line,
     )
 
-pub returns-in-Explain-clause-done : goal.returns-in-Explain-clause-done
-returns-in-Explain-clause-done g c zero = rw c.in-Explain.is (c.write_text-in-Explain.ensures.done zero)
+pub returns-in-Seen-run-clause-done : goal.returns-in-Seen-run-clause-done
+returns-in-Seen-run-clause-done g c zero = rw (c.in-Trace.is, c.in-Seen-run.is) (c.write_text-in-Seen-run.ensures.done zero)
 
-pub returns-in-Explain-clause-failed : goal.returns-in-Explain-clause-failed
-returns-in-Explain-clause-failed g c one =
-    let told = c.write_text-in-Explain.ensures.failed one in
-    rw c.in-Explain.is (
-      told.0,
-      whole_or_not told.0 (IsReportCutShort Explain) (IsReportBegun Explain) _ _
-          (watched_contents g.O.Write.contents) _ _ told.1,
-      told.2,
-    )
+pub returns-in-Seen-run-clause-failed : goal.returns-in-Seen-run-clause-failed
+returns-in-Seen-run-clause-failed g c one =
+    let failed = c.write_text-in-Seen-run.ensures.failed one in
+    rw (c.in-Trace.is, c.in-Seen-run.is)
+    (ended_whole (IsReportCutShort (Trace c.in-Trace.form Seen)) (IsReportBegun (Trace c.in-Trace.form Seen)) _ _
+    (watched_contents g.O.Write.contents) _ _ failed)
 
-pub returns-in-Draw-clause-done : goal.returns-in-Draw-clause-done
-returns-in-Draw-clause-done g c zero = rw c.in-Draw.is (c.write_text-in-Draw.ensures.done zero)
+pub returns-in-Count-clause-done : goal.returns-in-Count-clause-done
+returns-in-Count-clause-done g c zero = rw c.in-Count.is (c.write_text-in-Count.ensures.done zero)
 
-pub returns-in-Draw-clause-failed : goal.returns-in-Draw-clause-failed
-returns-in-Draw-clause-failed g c one =
-    let told = c.write_text-in-Draw.ensures.failed one in
-    rw c.in-Draw.is (
-      told.0,
-      whole_or_not told.0 (IsReportCutShort Draw) (IsReportBegun Draw) _ _
-          (watched_contents g.O.Write.contents) _ _ told.1,
-      told.2,
-    )
+pub returns-in-Count-clause-failed : goal.returns-in-Count-clause-failed
+returns-in-Count-clause-failed g c one =
+    let failed = c.write_text-in-Count.ensures.failed one in
+    rw c.in-Count.is
+    (ended_whole (IsReportCutShort Count) (IsReportBegun Count) _ _
+    (watched_contents g.O.Write.contents) _ _ failed)
+
+pub returns-in-Own-run-2-clause-done : goal.returns-in-Own-run-2-clause-done
+returns-in-Own-run-2-clause-done g c zero = rw (c.in-Draw.is, c.in-Own-run-2.is) (c.write_text-in-Own-run-2.ensures.done zero)
+
+pub returns-in-Own-run-2-clause-failed : goal.returns-in-Own-run-2-clause-failed
+returns-in-Own-run-2-clause-failed g c one =
+    let failed = c.write_text-in-Own-run-2.ensures.failed one in
+    rw (c.in-Draw.is, c.in-Own-run-2.is)
+    (ended_whole (IsReportCutShort (Draw Own)) (IsReportBegun (Draw Own)) _ _
+    (watched_contents g.O.Write.contents) _ _ failed)
+
+pub returns-in-Seen-run-2-clause-done : goal.returns-in-Seen-run-2-clause-done
+returns-in-Seen-run-2-clause-done g c zero = rw (c.in-Draw.is, c.in-Seen-run-2.is) (c.write_text-in-Seen-run-2.ensures.done zero)
+
+pub returns-in-Seen-run-2-clause-failed : goal.returns-in-Seen-run-2-clause-failed
+returns-in-Seen-run-2-clause-failed g c one =
+    let failed = c.write_text-in-Seen-run-2.ensures.failed one in
+    rw (c.in-Draw.is, c.in-Seen-run-2.is)
+    (ended_whole (IsReportCutShort (Draw Seen)) (IsReportBegun (Draw Seen)) _ _
+    (watched_contents g.O.Write.contents) _ _ failed)
 
 pub returns-in-Conform-clause-done : goal.returns-in-Conform-clause-done
 returns-in-Conform-clause-done g c zero = rw c.in-Conform.is (c.write_text-in-Conform.ensures.done zero)
 
 pub returns-in-Conform-clause-failed : goal.returns-in-Conform-clause-failed
 returns-in-Conform-clause-failed g c one =
-    let told = c.write_text-in-Conform.ensures.failed one in
-    rw c.in-Conform.is (
-      told.0,
-      whole_or_not told.0 (IsReportCutShort Conform) (IsReportBegun Conform) _ _
-          (watched_contents g.O.Write.contents) _ _ told.1,
-      told.2,
-    )
-
-pub returns-in-Trace-clause-done : goal.returns-in-Trace-clause-done
-returns-in-Trace-clause-done g c zero =
-    let done = c.stream_text.ensures.done zero in
-    rw c.in-Trace.is (done.0, done.1, done.2, (refl, done.3), done.4)
-
-pub returns-in-Trace-clause-failed : goal.returns-in-Trace-clause-failed
-returns-in-Trace-clause-failed g c one =
-    let told = c.stream_text.ensures.failed one in
-    rw c.in-Trace.is (told.0, inr (told.1, told.2), told.3)
+    let failed = c.write_text-in-Conform.ensures.failed one in
+    rw c.in-Conform.is
+    (ended_whole (IsReportCutShort Conform) (IsReportBegun Conform) _ _
+    (watched_contents g.O.Write.contents) _ _ failed)

@@ -9,7 +9,8 @@ use Rattle.dsa_scenario.specs.declared.{actions.Action.TheVariants.{Ask, Refuse}
 use Rattle.dsa_scenario.specs.{Run.{event_of, AreOf}, Steps.{standing}, Worked.{smallest_caps, stepped}}
 use Rattle.dsa_explain_lines.specs.Parts.{part_of}
 use Rattle.dsa_conform.specs.{Allowed.{IsAllowed}, Lines.{allowed_line}, Run.{IsShownRun}}
-use Rattle.dsa_conform.specs.Worked.{caps_of_three_queues, from_first, from_second, nothing_seen, observed_of_two_queues}
+use Rattle.dsa_conform.specs.Worked.{caps_of_three_queues, from_first, from_second, observed_of_two_queues}
+use Rattle.dsa_conform.specs.Seen.{nothing_seen}
 use Rattle.dsa_conform.specs.Worked.{records_of_two_queues, smallest_device_at_first}
 use Rattle.dsa_conform.proofs.{RowRuns.{all_lines, is_nothing, nothing, not_answered_so, only_nothing}, RowWays.{to_one}}
 use Rattle.dsa_conform.proofs.{RowRuns.{smallest_replay, word_leads}, RowTakes.{second_allowed}}

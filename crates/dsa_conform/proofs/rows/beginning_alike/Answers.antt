@@ -8,7 +8,7 @@ use Rattle.dsa_device.specs.Running.{Running}
 use Rattle.dsa_scenario.specs.{declared.run.Record.{Record}, Steps.{standing}}
 use Rattle.dsa_explain_lines.specs.Parts.{event_part, part_of, room_part}
 use Rattle.dsa_conform.specs.{Allowed.{IsAllowed}, Lines.{allowed_line}}
-use Rattle.dsa_conform.specs.Worked.{caps_of_two_queues, cleared, observed_of_an_error, records_of_one_error}
+use Rattle.dsa_conform.specs.Worked.{caps_of_two_queues, cleared, records_of_one_error}
 use Rattle.dsa_conform.proofs.RowWays.{to_one}
 
 -- the code at this place, and behind the end 0

@@ -8,7 +8,8 @@ use Rattle.dsa_scenario.specs.{declared.actions.Action.{Action, TheVariants.{Ask
 use Rattle.dsa_scenario.specs.{declared.run.Record.{Record}, Run.{event_of}}
 use Rattle.dsa_conform.specs.{declared.{told.Told.{Told}, way.Way.{Way}}, Run.{IsFollowedTo}, Seen.{Seen}}
 use Rattle.dsa_conform.specs.Ways.{HasOne, IsOneGone, IsTold}
-use Rattle.dsa_conform.specs.Worked.{answered, nothing_seen, smallest_device_at_first, told_allowing, way_at_first}
+use Rattle.dsa_conform.specs.Worked.{answered, smallest_device_at_first, told_allowing, way_at_first}
+use Rattle.dsa_conform.specs.Seen.{nothing_seen}
 use Rattle.dsa_conform.proofs.{Objects.{not_first}, RowRuns.{nothing, is_nothing}, RowTakes.{none_allowed}}
 use Rattle.dsa_conform.proofs.RowWays.{to_one, to_two, not_one, not_two, not_alike, not_in_other, poll_covered, none_covered}
 

@@ -1,29 +1,26 @@
 use Rattle.dsa_conform.proofs.rows.documents.Goals as goal
-use Rattle.dsa_book.specs.declared.answer.Reply.TheVariants as reply
 use Rattle.dsa_book.specs.declared.event.Event.TheVariants as event
-use Rattle.dsa_book.specs.declared.answer.PollAnswer.TheVariants as poll
-use Rattle.std.proofs.Common.{◌≡◌, ◌∙◌, ◌++◌, ℕ, true, false, List, [], ◌∷◌, Option, Some, None, Ok, length, map, take, codes}
-use Rattle.std.proofs.Common.{refl, ap, ◌≤◌, ◌^◌, subst, arith, lit≤}
-use Rattle.std.specs.{Prelude.{Contains}, Fmt.{digits}}
-use Rattle.std.proofs.lemmas.List.Elements.{All-nil, All-cons, Contains-push}
+use Rattle.std.proofs.Common.{◌≡◌, ◌∙◌, ◌++◌, ℕ, true, List, [], ◌∷◌, Option, Some, None, length, map, take, codes}
+use Rattle.std.proofs.Common.{refl, ap, ◌≤◌, ◌^◌, arith, lit≤}
+use Rattle.std.specs.{Fmt.{digits}}
+use Rattle.std.proofs.lemmas.Bool.{false≢true}
 use Rattle.serde_json.{specs.Data.{Data}, proofs.OnLiterals.{serde_json_on_literals}}
 use Rattle.dsa_regs.specs.Caps.{check_caps}
 use Rattle.dsa_scenario.specs.declared.faults.ScenarioFault.{ScenarioFault, TheVariants.{Differs}}
 use Rattle.dsa_scenario.specs.declared.{actions.Action.{Action, TheVariants.{Ask}}, run.Record.{Record}}
-use Rattle.dsa_scenario.specs.{Document.{HasHead}, Lines.{record_text}}
-use Rattle.dsa_scenario.specs.Worked.{smallest_caps, smallest_caps_text, no_caps_text, document_text, stepped}
-use Rattle.dsa_conform.specs.Allowed.{IsAllowed}
-use Rattle.dsa_conform.specs.Seen.{Seen, observation_of, shows}
+use Rattle.dsa_scenario.specs.{Document.{HasHead}}
+use Rattle.dsa_scenario.specs.Worked.{smallest_caps, smallest_caps_text, no_caps_text, document_text}
+use Rattle.dsa_conform.specs.Seen.{Seen, observation_of}
 use Rattle.dsa_conform.specs.Lines.{conforms_text, seen_count}
-use Rattle.dsa_conform.specs.Run.{AreRead, IsShownRun, IsConformance, IsRunJudged, IsVerdict}
-use Rattle.dsa_conform.specs.Worked.{answered, flagged, smallest_device_at_first, document_of, poll_with}
+use Rattle.dsa_conform.specs.Run.{AreRead, IsShownRun, IsConformance, IsRunTold, IsVerdict}
+use Rattle.dsa_conform.specs.Worked.{answered, flagged, document_of, poll_with}
 use Rattle.dsa_scenario.proofs.Heads.{head_by, same_caps, same_capacity, same_steps}
 use Rattle.dsa_conform.proofs.{RowRuns.{nothing, poll_differs}, Objects.{not_first, not_second, unread}}
 
 -- a document on the smallest device, and what is told of its steps
 judged : (text : List ℕ) (room : ℕ) (steps : List Data) (fault : Option ScenarioFault) (told : List ℕ)
     → HasHead text smallest_caps room steps → room ≤ 2 ^ 20 → IsVerdict smallest_caps room steps fault told
-    → IsRunJudged text fault told
+    → IsRunTold IsVerdict text fault told
 judged text room steps fault told head small verdict = record {
   caps = smallest_caps;
   capacity = room;
@@ -108,10 +105,8 @@ returns-clause-unread_behind c is =
 
 pub returns-clause-no_caps : goal.returns-clause-no_caps
 unfolding serde_json_on_literals
-returns-clause-no_caps c is =
-    let text = document_text no_caps_text (codes "9") [] in
-    let bad : false ≡ true = ap check_caps (same_caps text _ _ _ _ refl is.head) ∙ is.opening.good in
-    absurd cc
+returns-clause-no_caps c is = false≢true
+    (ap check_caps (same_caps (document_text no_caps_text (codes "9") []) _ _ _ _ refl is.head) ∙ is.opening.good)
 
 pub returns-clause-no_capacity : goal.returns-clause-no_capacity
 unfolding serde_json_on_literals

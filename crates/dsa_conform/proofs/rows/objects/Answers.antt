@@ -2,7 +2,7 @@ use Rattle.dsa_conform.proofs.rows.objects.Goals as goal
 use Rattle.std.proofs.Common.{[], ◌∷◌, refl}
 use Rattle.dsa_book.specs.declared.event.Event.TheVariants.{Poll}
 use Rattle.dsa_scenario.specs.declared.actions.Action.TheVariants.{Ask}
-use Rattle.dsa_conform.specs.Worked.{nothing_seen}
+use Rattle.dsa_conform.specs.Seen.{nothing_seen}
 use Rattle.dsa_conform.proofs.Objects.{not_second}
 
 pub returns-clause-read : goal.returns-clause-read

@@ -1,17 +1,12 @@
 use Rattle.dsa_conform.proofs.rows.reports.Goals as goal
-use Rattle.std.proofs.Common.{◌≡◌, [], ◌∷◌, refl, codes, suc, ap}
-use Rattle.std.specs.Prelude.{bytes_eq, replicate}
+use Rattle.std.proofs.Common.{◌≡◌, [], ◌∷◌, refl, codes, ap}
+use Rattle.std.specs.Prelude.{bytes_eq}
 use Rattle.std.proofs.lemmas.Bool.{false≢true}
-use Rattle.dsa_conform.proofs.RowForms.{front, after_feed, inside_line, single_line, word_of_lines, next_lines}
+use Rattle.dsa_conform.proofs.RowForms.{front, after_feed, inside_line, line_before, single_line, word_of_lines}
+use Rattle.dsa_conform.proofs.RowForms.{word_of_step, word_of_seen, word_of_allowed}
 
 pub returns-clause-conforms : goal.returns-clause-conforms
-returns-clause-conforms c = (
-  codes "conforms: 1 step, 0 answers seen\n",
-  [],
-  record { rest = codes "1 step, 0 answers seen"; is = refl; printable = refl },
-  refl,
-  refl,
-)
+returns-clause-conforms c = line_before (codes "conforms: ") (codes "1 step, 0 answers seen") [] [] refl refl
 
 pub returns-clause-one_line : goal.returns-clause-one_line
 unfolding front
@@ -27,94 +22,49 @@ returns-clause-nothing c = λ h.
 pub returns-clause-differs : goal.returns-clause-differs
 returns-clause-differs c = (
   0,
-  (
-    codes "step 0: poll\n",
-    codes "seen: full\nallowed: nothing\n",
-    record { rest = codes "0: poll"; is = refl; printable = refl },
-    (
-      codes "seen: full\n",
-      codes "allowed: nothing\n",
-      record { rest = codes "full"; is = refl; printable = refl },
-      (codes "allowed: nothing\n", [], record { rest = codes "nothing"; is = refl; printable = refl }, refl, refl),
-      refl,
-    ),
-    refl,
-  ),
+  line_before (codes "step ") (codes "0: poll") (codes "seen: " ∷ codes "allowed: " ∷ [])
+      (codes "seen: full\nallowed: nothing\n") refl
+      (line_before (codes "seen: ") (codes "full") (codes "allowed: " ∷ []) (codes "allowed: nothing\n") refl
+      (line_before (codes "allowed: ") (codes "nothing") [] [] refl refl)),
 )
 
 pub returns-clause-more : goal.returns-clause-more
 returns-clause-more c = (
   1,
-  (
-    codes "step 4: dispatch e0\n",
-    codes "seen: full\nallowed: taken 7 from 0\nallowed: taken 9 from 2\n",
-    record { rest = codes "4: dispatch e0"; is = refl; printable = refl },
-    (
-      codes "seen: full\n",
-      codes "allowed: taken 7 from 0\nallowed: taken 9 from 2\n",
-      record { rest = codes "full"; is = refl; printable = refl },
-      (
-        codes "allowed: taken 7 from 0\n",
-        codes "allowed: taken 9 from 2\n",
-        record { rest = codes "taken 7 from 0"; is = refl; printable = refl },
-        (
-          codes "allowed: taken 9 from 2\n",
-          [],
-          record { rest = codes "taken 9 from 2"; is = refl; printable = refl },
-          refl,
-          refl,
-        ),
-        refl,
-      ),
-      refl,
-    ),
-    refl,
-  ),
+  line_before (codes "step ") (codes "4: dispatch e0") (codes "seen: " ∷ codes "allowed: " ∷ codes "allowed: " ∷ [])
+      (codes "seen: full\nallowed: taken 7 from 0\nallowed: taken 9 from 2\n") refl
+      (line_before (codes "seen: ") (codes "full") (codes "allowed: " ∷ codes "allowed: " ∷ [])
+      (codes "allowed: taken 7 from 0\nallowed: taken 9 from 2\n") refl
+      (line_before (codes "allowed: ") (codes "taken 7 from 0") (codes "allowed: " ∷ [])
+      (codes "allowed: taken 9 from 2\n") refl
+      (line_before (codes "allowed: ") (codes "taken 9 from 2") [] [] refl refl))),
 )
 
 pub returns-clause-none_allowed : goal.returns-clause-none_allowed
 unfolding after_feed
 returns-clause-none_allowed c = λ h.
-    let allowed = replicate (suc h.0) (codes "allowed: ") in
-    let after_step = next_lines (codes "step ") (codes "seen: " ∷ allowed)
-    (codes "step 0: poll\nseen: full\n") h.1 in
-    let after_seen = next_lines (codes "seen: ") allowed (codes "seen: full\n") after_step in
-    let word : [] ≡ codes "allowed: " = word_of_lines (codes "allowed: ") (replicate h.0 (codes "allowed: ")) [] after_seen in
+    let word : [] ≡ codes "allowed: " = word_of_allowed h.0 (codes "step 0: poll\nseen: full\n") h.1 in
     absurd cc
 
 pub returns-clause-not_seen : goal.returns-clause-not_seen
 unfolding after_feed
-returns-clause-not_seen c = λ h.
-    let allowed = replicate (suc h.0) (codes "allowed: ") in
-    let after_step = next_lines (codes "step ") (codes "seen: " ∷ allowed)
-    (codes "step 0: poll\nallowed: nothing\nallowed: nothing\n") h.1 in
-    false≢true (ap (λ l. bytes_eq l (codes "seen: ")) (word_of_lines (codes "seen: ") allowed
-    (codes "allowed: nothing\nallowed: nothing\n") after_step))
+returns-clause-not_seen c = λ h. false≢true
+    (ap (λ l. bytes_eq l (codes "seen: "))
+    (word_of_seen h.0 (codes "step 0: poll\nallowed: nothing\nallowed: nothing\n") h.1))
 
 pub returns-clause-no_step : goal.returns-clause-no_step
 returns-clause-no_step c = λ h. false≢true
-    (ap (λ l. bytes_eq l (codes "step ")) (word_of_lines (codes "step ")
-    (codes "seen: " ∷ replicate (suc h.0) (codes "allowed: ")) (codes "conforms: 1 step, 0 answers seen\n") h.1))
+    (ap (λ l. bytes_eq l (codes "step ")) (word_of_step h.0 (codes "conforms: 1 step, 0 answers seen\n") h.1))
 
 pub returns-clause-no_blanks : goal.returns-clause-no_blanks
 unfolding after_feed
 returns-clause-no_blanks c = (
-  λ h. false≢true (ap (λ l. bytes_eq l (codes "step ")) (word_of_lines (codes "step ")
-      (codes "seen: " ∷ replicate (suc h.0) (codes "allowed: "))
-      (codes "step0: poll\nseen: full\nallowed: nothing\n") h.1)),
-  λ h.
-      let allowed = replicate (suc h.0) (codes "allowed: ") in
-      let after_step = next_lines (codes "step ") (codes "seen: " ∷ allowed)
-      (codes "step 0: poll\nseen:full\nallowed: nothing\n") h.1 in
-      false≢true (ap (λ l. bytes_eq l (codes "seen: ")) (word_of_lines (codes "seen: ") allowed
-      (codes "seen:full\nallowed: nothing\n") after_step)),
-  λ h.
-      let allowed = replicate (suc h.0) (codes "allowed: ") in
-      let after_step = next_lines (codes "step ") (codes "seen: " ∷ allowed)
-      (codes "step 0: poll\nseen: full\nallowed:nothing\n") h.1 in
-      let after_seen = next_lines (codes "seen: ") allowed (codes "seen: full\nallowed:nothing\n") after_step in
-      false≢true (ap (λ l. bytes_eq l (codes "allowed: ")) (word_of_lines (codes "allowed: ")
-      (replicate h.0 (codes "allowed: ")) (codes "allowed:nothing\n") after_seen)),
+  λ h. false≢true (ap (λ l. bytes_eq l (codes "step "))
+      (word_of_step h.0 (codes "step0: poll\nseen: full\nallowed: nothing\n") h.1)),
+  λ h. false≢true (ap (λ l. bytes_eq l (codes "seen: "))
+      (word_of_seen h.0 (codes "step 0: poll\nseen:full\nallowed: nothing\n") h.1)),
+  λ h. false≢true (ap (λ l. bytes_eq l (codes "allowed: "))
+      (word_of_allowed h.0 (codes "step 0: poll\nseen: full\nallowed:nothing\n") h.1)),
 )
 
 pub returns-clause-bad_step : goal.returns-clause-bad_step

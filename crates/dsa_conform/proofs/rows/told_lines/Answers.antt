@@ -8,7 +8,8 @@ use Rattle.dsa_conform.specs.{Allowed.{queue_taken}, declared.told.{Line.{Line},
 use Rattle.dsa_conform.specs.Lines.{AreListed, allowed_line, difference_text}
 use Rattle.dsa_conform.specs.ToldLines.{AreLinesTold, HasText, IsLineOf, line_as}
 use Rattle.dsa_conform.proofs.RowWays.{to_one, to_two}
-use Rattle.dsa_conform.specs.Worked.{answered, from_first, from_second, line_of, nothing_seen, told_allowing}
+use Rattle.dsa_conform.specs.Worked.{answered, from_first, from_second, line_of, told_allowing}
+use Rattle.dsa_conform.specs.Seen.{nothing_seen}
 
 -- a line from the first queue before one from the second
 listed : (one other : String Global) → (string_bytes one ≡ string_bytes other → ⊥)

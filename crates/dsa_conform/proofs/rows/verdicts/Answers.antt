@@ -18,7 +18,7 @@ use Rattle.dsa_scenario.specs.Worked.{smallest_caps, stepped, group_of_a_run, ob
 use Rattle.dsa_conform.specs.Allowed.{IsAllowed}
 use Rattle.dsa_conform.specs.Lines.{conforms_text, seen_count, difference_text}
 use Rattle.dsa_conform.specs.Run.{IsShownRun, IsDifference, IsConforming}
-use Rattle.dsa_conform.specs.{Seen.{Seen, shows}, Worked.{answered, nothing_seen, smallest_device_at_first}}
+use Rattle.dsa_conform.specs.{Seen.{Seen, nothing_seen, shows}, Worked.{answered, smallest_device_at_first}}
 use Rattle.dsa_conform.proofs.{SeenAlike.{only_entry}, Objects.{not_first, not_second, one_read}}
 use Rattle.dsa_conform.proofs.RowRuns.{LeadTo, differs, smallest_replay, word_leads, nothing, is_nothing, only_nothing}
 use Rattle.dsa_conform.proofs.RowRuns.{not_answered_so}

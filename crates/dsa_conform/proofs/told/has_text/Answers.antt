@@ -1,5 +1,5 @@
 use Rattle.dsa_conform.proofs.told.has_text.Goals as goal
-use Rattle.std.proofs.Common.{◌≡◌, ◌∙◌, arith, sym, ap, subst, take, length, true, false, string_bytes}
+use Rattle.std.proofs.Common.{◌≡◌, ◌∙◌, arith, sym, subst, true, false, string_bytes}
 use Rattle.std.proofs.lemmas.{Bool.Decides.{Decides-eqb}, Slice.Eq.{slice_eq-Decides}, List.{take_all}}
 use Rattle.dsa_conform.specs.declared.told.Line.{Line}
 use Rattle.dsa_conform.specs.ToldLines.{HasText}

@@ -1,6 +1,6 @@
 use Rattle.dsa_conform.proofs.told.lines_of.Goals as goal
 use Rattle.std.proofs.Common.{◌∙◌, ◌++◌, ◌∷◌, [], sym, ap, subst, take}
-use Rattle.std.proofs.lemmas.List.{take_more, take_all}
+use Rattle.std.proofs.lemmas.List.{take_more}
 use Rattle.dsa_conform.specs.ToldLines.{AreLinesTold}
 use Rattle.dsa_conform.proofs.Placing.{more_lines}
 

@@ -1,5 +1,5 @@
 use Rattle.dsa_conform.proofs.told.place.Goals as goal
-use Rattle.std.proofs.Common.{sym, subst, string_bytes}
+use Rattle.std.proofs.Common.{subst, string_bytes}
 use Rattle.dsa_conform.specs.ToldLines.{HasText, IsPlaceOf}
 use Rattle.dsa_conform.proofs.{Placing.{placed}, PartC.{was_placed}}
 

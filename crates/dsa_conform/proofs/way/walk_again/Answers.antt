@@ -24,7 +24,7 @@ loop-i-preserved c =
           (c.in-Some.action, seen_as c.in-Some.seen) _ _ _ _ _ _ read inside c.index-head-i.is
           (subst (λ (v : Value). Some (c.in-Some.action, seen_as c.in-Some.seen) ≡ observation_of (view v))
           (sym c.index-head-i.is) c.in-Some.ensures)
-          c.in_ok-entry.ensures (c.loop-i.invariant.1 observed read),
+          c.in_ok-entry.ensures.follows (c.loop-i.invariant.1 observed read),
     )
 
 pub returns : goal.returns

@@ -13,7 +13,7 @@ loop-moment-preserved c =
     c.value_of-level.ensures ∙ ap (λ level. value_of c.args.line level) c.level_in.ensures in
     let added : string_bytes c.add_level.new.text ≡ string_bytes c.loop-moment.text
     ++ cond (value_of c.args.line (level_in c.args.band c.moment-item.result) == c.loop-moment.before) []
-    (turn_text scale.bottom scale.most c.loop-moment.step
+    (turn_text scale.bottom scale.most c.loop-moment.step c.loop-moment.before
     (value_of c.args.line (level_in c.args.band c.moment-item.result))) =
     rw (← is) c.in_ok-add_level.ensures in
     let on : string_bytes c.add_level.new.text
@@ -30,9 +30,9 @@ loop-moment-preserved c =
 
 pub returns : goal.returns
 returns c =
-    on_ok_weaker c.add_right_end.result
+    on_ok_weaker c.add_reach.result
     (λ added.
     turned_at_end (λ moment. value_of c.args.line (level_in c.args.band moment)) c.args.moments.now
     c.loop-moment.moment-index c.args.scale.bottom c.args.scale.most c.loop-moment.step c.loop-moment.before _ _ _
     c.loop-moment-test.false added c.loop-moment.invariant)
-    c.add_right_end.ensures
+    c.add_reach.ensures

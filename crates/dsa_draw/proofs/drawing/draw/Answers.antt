@@ -1,6 +1,6 @@
 use Rattle.dsa_draw.proofs.drawing.draw.Goals as goal
-use Rattle.std.proofs.Common.{◌≡◌, ◌∙◌, ◌++◌, refl, ap, append_assoc, string_bytes}
-use Rattle.dsa_draw.specs.{Bands.{bands_of}, Bars.{bars_of}, Pages.{foot_text}, Rows.{rows_above_text}}
+use Rattle.std.proofs.Common.{◌≡◌, ◌∙◌, ◌++◌, refl, ap, append_assoc}
+use Rattle.dsa_draw.specs.{Bars.{bars_of}, Pages.{foot_text, legend_text}, Rows.{rows_above_text}}
 use Rattle.dsa_draw.specs.Drawings.{step_count, story_bands_text, story_bands_end, story_engines_text, story_height}
 
 pub returns : goal.returns
@@ -27,8 +27,10 @@ returns c =
     c.in_ok-bars.ensures ∙ ap (λ ms. bars_of ms c.as_slice-fates.result.now) same ∙ ap (bars_of moments) ended in
     let height : c.in_ok-height.height ≡ story_height story =
     c.in_ok-height.ensures.end ∙ rw (steps, top, same, c.deref-2.ensures.value, bars) refl in
-    let below : c.as_str-3.result.now ≡ story_engines_text story ++ foot_text =
+    let below : c.as_str-3.result.now ≡ story_engines_text story ++ legend_text (story_height story) ++ foot_text =
     c.as_str-3.ensures.value ∙ c.in_ok-add_foot.ensures ∙ rw (
+      c.in_ok-add_legend.ensures,
+      height,
       c.in_ok-height.ensures.text,
       c.new-below.ensures.bytes,
       steps,
@@ -36,7 +38,7 @@ returns c =
       same,
       c.deref-2.ensures.value,
       bars,
-    ) refl in
+    ) (simp append_assoc) in
     c.in_ok-add_parts.ensures ∙ rw (
       c.in_ok-add_columns.ensures,
       c.in_ok-add_head.ensures,

@@ -4,7 +4,7 @@ use Rattle.std.specs.declared.alloc.Global.{Global}
 use Rattle.dsa_scenario.specs.Lines.{record_text}
 use Rattle.dsa_draw.specs.declared.{moment.Moment.{Moment}, run.Story.{Story}}
 use Rattle.dsa_draw.specs.Drawings.{AreMoments, drawing_text, step_count, story_bands_text, story_engines_text}
-use Rattle.dsa_draw.specs.{Drawings.{story_height}, Moments.{IsMomentOf}, Pages.{foot_text, head_text}}
+use Rattle.dsa_draw.specs.{Drawings.{story_height}, Moments.{IsMomentOf}, Pages.{foot_text, head_text, legend_text}}
 use Rattle.dsa_draw.specs.{Columns.{columns_text}, Rows.{rows_above_text}}
 use Rattle.dsa_draw.specs.Worked.{device_of_a_drawing, drawn_on_literals, idle_step, moment_of_a_device}
 use Rattle.dsa_draw.specs.Worked.{story_of_a_device}
@@ -17,17 +17,19 @@ counts_differ : (memory : Global)
 counts_differ memory is = omega (arith, is.ended)
 
 -- the number of columns is in the page's width
-first_digits : (moments : List Moment) (height : ℕ) (columns rows bands engines : List ℕ) → AreMoments [] moments
-    → get_or (head_text (step_count moments) height ++ columns ++ rows ++ bands ++ engines ++ foot_text) 48 0 ≡ 54
+first_digits : (moments : List Moment) (height : ℕ) (columns rows bands engines legend : List ℕ)
+    → AreMoments [] moments
+    → get_or (head_text (step_count moments) height ++ columns ++ rows ++ bands ++ engines ++ legend ++ foot_text) 48 0
+    ≡ 54
 unfolding drawn_on_literals
-first_digits [] height columns rows bands engines are = refl
-first_digits (moment ∷ moments) height columns rows bands engines are = absurd are
+first_digits [] height columns rows bands engines legend are = refl
+first_digits (moment ∷ moments) height columns rows bands engines legend are = absurd are
 
 first_digits_of : (story : Story) → AreMoments [] story.moments.items → get_or (drawing_text story) 48 0 ≡ 54
 first_digits_of story are = first_digits story.moments.items (story_height story)
     (columns_text (story_height story) 0 story.moments.items)
     (rows_above_text (step_count story.moments.items) story.fates.items story.moments.items)
-    (story_bands_text story) (story_engines_text story) are
+    (story_bands_text story) (story_engines_text story) (legend_text (story_height story)) are
 
 first_digits_of_a_step : (memory : Global) → get_or (drawing_text (story_of_a_device memory)) 48 0 ≡ 56
 unfolding drawn_on_literals

@@ -7,31 +7,36 @@ use Rattle.dsa_regs.specs.Caps.{check_caps}
 use Rattle.dsa_book.specs.declared.answer.Ticket.{Ticket}
 use Rattle.dsa_device.specs.Running.{Running, running_at_first, IsReplay}
 use Rattle.dsa_scenario.specs.{Lines.{line_of_text}, Steps.{visits}, Worked.{smallest_caps, no_caps_text, document_text}}
-use Rattle.dsa_scenario.proofs.Walks.{opened}
+use Rattle.dsa_serve.proofs.Sessions.{new_session}
 use Rattle.dsa_serve.specs.declared.requests.LineFault.TheVariants.{NotJson}
-use Rattle.dsa_serve.specs.declared.requests.Request.{Request, TheVariants.{Fault}}
-use Rattle.dsa_serve.specs.{Answers.{answers, IsPage}, Input.{IsLine}}
+use Rattle.dsa_serve.specs.Requests.{Request, Fault}
+use Rattle.dsa_serve.specs.{Answers.{answers}, Input.{IsLine}}
 use Rattle.dsa_serve.specs.{Dialogue.{from_document, IsServing}, Worked.{first_line}}
 use Rattle.dsa_serve.proofs.RowLines.{no_lines, no_feed_behind, one_division}
 use Rattle.dsa_serve.proofs.RowDialogues.{bare_document, parts_are, no_document, bare_parts, opening_is, nothing_behind}
 use Rattle.dsa_serve.proofs.RowDialogues.{bare_line, no_request, one_fault}
 
 -- what is so of a session: its answers
-answers_are : (first behind output : List ℕ) (number : ℕ) (now : Running) (tickets : List Ticket) (kept : List ℕ)
-    (is : IsServing first behind output number now tickets kept) (requests : List Request)
-    → from_document is.actions is.requests ≡ requests
-    → output ≡ answers requests (visits is.caps is.capacity [] is.session.records)
-answers_are first behind output number now tickets kept is requests e =
-    is.session.made.answered ∙ ap (λ rs. answers rs (visits is.caps is.capacity [] is.session.records)) e
+answers_are : (first behind output : List ℕ) (number : ℕ) (now : Running) (tickets : List Ticket) (told : ℕ)
+    (kept : List ℕ)
+    (is : IsServing first behind output number now tickets told kept) (requests : List Request)
+    → from_document is.observed is.requests ≡ requests
+    → output ≡ answers (running_at_first is.caps is.capacity) 0 requests
+    (visits is.caps is.capacity [] is.session.records)
+answers_are first behind output number now tickets told kept is requests e =
+    is.session.made.made.answered
+    ∙ ap (λ rs. answers (running_at_first is.caps is.capacity) 0 rs
+    (visits is.caps is.capacity [] is.session.records)) e
 
-nothing_answered : (output : List ℕ) (number : ℕ) (now : Running) (tickets : List Ticket) (kept : List ℕ)
-    → IsServing (first_line []) [] output number now tickets kept → output ≡ []
-nothing_answered output number now tickets kept is =
+nothing_answered : (output : List ℕ) (number : ℕ) (now : Running) (tickets : List Ticket) (told : ℕ)
+    (kept : List ℕ)
+    → IsServing (first_line []) [] output number now tickets told kept → output ≡ []
+nothing_answered output number now tickets told kept is =
     let none = no_request is.requests (rw (no_lines is.lines is.rest is.lines_are.joined).0 at is.asked) in
-    answers_are (first_line []) [] output number now tickets kept is []
-    (rw (bare_parts is.caps is.capacity is.actions is.document).1 none)
+    answers_are (first_line []) [] output number now tickets told kept is []
+    (rw (bare_parts is.caps is.capacity is.observed is.document).1 none)
 
-opened_here : IsServing (first_line []) [] [] 0 (running_at_first smallest_caps 9) [] []
+opened_here : IsServing (first_line []) [] [] 0 (running_at_first smallest_caps 9) [] 0 []
 opened_here =
     let replay : IsReplay (running_at_first smallest_caps 9) =
     record { caps = refl; bounded = lit≤ tt; within = lit≤ tt; legal = refl; replayed = refl } in
@@ -40,39 +45,40 @@ opened_here =
       rest = [];
       caps = smallest_caps;
       capacity = 9;
-      actions = [];
+      observed = [];
       requests = [];
       lines_are = nothing_behind;
       keeps = refl;
       document = bare_document;
       opening = opening_is;
       asked = tt;
-      session = opened IsPage smallest_caps 9 (running_at_first smallest_caps 9) [] ([], [])
-          (record { device = refl; replay = replay; none = refl }) (record { count = refl; answered = refl });
+      session = new_session smallest_caps 9 (running_at_first smallest_caps 9) []
+          (record { device = refl; replay = replay; none = refl });
     }
 
 pub returns-clause-opened : goal.returns-clause-opened
 returns-clause-opened c = opened_here
 
-no_session : (behind output : List ℕ) (number : ℕ) (now : Running) (tickets : List Ticket) (kept : List ℕ)
-    → ¬ IsServing (codes "{}") behind output number now tickets kept
+no_session : (behind output : List ℕ) (number : ℕ) (now : Running) (tickets : List Ticket) (told : ℕ)
+    (kept : List ℕ)
+    → ¬ IsServing (codes "{}") behind output number now tickets told kept
 unfolding serde_json_on_literals
-no_session behind output number now tickets kept is =
-    no_document (codes "{}") is.caps is.capacity is.actions _ refl refl is.document
+no_session behind output number now tickets told kept is =
+    no_document (codes "{}") is.caps is.capacity is.observed _ refl refl is.document
 
 pub returns-clause-no_document : goal.returns-clause-no_document
-returns-clause-no_document c output number now tickets kept is = no_session [] output number now tickets kept is
+returns-clause-no_document c output number now tickets told kept is = no_session [] output number now tickets told kept is
 
 pub returns-clause-bad_caps : goal.returns-clause-bad_caps
 unfolding serde_json_on_literals
-returns-clause-bad_caps c output number now tickets kept is =
-    let parts = parts_are (document_text no_caps_text (codes "9") []) is.caps is.capacity is.actions _ _ refl refl
+returns-clause-bad_caps c output number now tickets told kept is =
+    let parts = parts_are (document_text no_caps_text (codes "9") []) is.caps is.capacity is.observed _ _ refl refl
     is.document in
     false≢true (ap check_caps parts.0 ∙ is.opening.good)
 
 pub returns-clause-answered_too_early : goal.returns-clause-answered_too_early
-returns-clause-answered_too_early c output number now tickets kept is =
-    nothing_answered output number now tickets kept is
+returns-clause-answered_too_early c output number now tickets told kept is =
+    nothing_answered output number now tickets told kept is
 
 -- a line feed is one empty line
 one_line : (lines : List (List ℕ)) (rest : List ℕ) → 10 ∷ [] ≡ flat_map line_of_text lines ++ rest → All IsLine lines
@@ -83,11 +89,11 @@ one_line lines rest e each last =
 
 pub returns-clause-line_without_its_answer : goal.returns-clause-line_without_its_answer
 unfolding serde_json_on_literals
-returns-clause-line_without_its_answer c number now tickets kept is =
+returns-clause-line_without_its_answer c number now tickets told kept is =
     let line = one_line is.lines is.rest is.lines_are.joined is.lines_are.each is.lines_are.last in
     let one = one_fault [] is.requests (lit≤ tt) refl (rw line at is.asked) in
-    let answer = answers_are (first_line []) (codes "\n") [] number now tickets kept is (Fault NotJson ∷ [])
-    (rw (bare_parts is.caps is.capacity is.actions is.document).1 one) in
+    let answer = answers_are (first_line []) (codes "\n") [] number now tickets told kept is (Fault NotJson ∷ [])
+    (rw (bare_parts is.caps is.capacity is.observed is.document).1 one) in
     absurd cc
 
 -- bytes without a line feed are the rest of a line
@@ -99,14 +105,14 @@ only_rest behind (l ∷ lines) rest line e =
     (e ∙ append_assoc (line_of_text l) (flat_map line_of_text lines) rest))
 
 pub returns-clause-kept : goal.returns-clause-kept
-returns-clause-kept c behind output number now tickets kept line is =
+returns-clause-kept c behind output number now tickets told kept line is =
     let rest = only_rest behind is.lines is.rest line is.lines_are.joined in
     omega (arith, ap length is.keeps, ap length rest, length-take 1_048_577 is.rest)
 
 -- ---- a dialogue
 
 pub returns-clause-begun : goal.returns-clause-begun
-returns-clause-begun c dialogue number device tickets kept = record {
+returns-clause-begun c dialogue number device tickets told kept = record {
   input = line_of_text (first_line []);
   first = first_line [];
   behind = [];
@@ -116,15 +122,15 @@ returns-clause-begun c dialogue number device tickets kept = record {
   line = bare_line;
   short = lit≤ tt;
   front = refl;
-  serving = rw number (rw device (rw tickets (rw kept opened_here)));
+  serving = rw number (rw device (rw tickets (rw told (rw kept opened_here))));
 }
 
 pub returns-clause-begun_with_no_document : goal.returns-clause-begun_with_no_document
 returns-clause-begun_with_no_document c dialogue held holds is =
     let session = dialogue.session in
     let first : is.first ≡ codes "{}" = sym (is.read ∙ append-nil is.input ∙ is.front.0) in
-    no_session is.behind is.output session.number session.device session.tickets.items dialogue.kept.items
-    (subst (λ f. IsServing f is.behind is.output session.number session.device session.tickets.items
+    no_session is.behind is.output session.number session.device session.tickets.items session.told dialogue.kept.items
+    (subst (λ f. IsServing f is.behind is.output session.number session.device session.tickets.items session.told
     dialogue.kept.items) first is.serving)
 
 pub returns-clause-longest_first : goal.returns-clause-longest_first
@@ -146,9 +152,9 @@ returns-clause-written_too_early c dialogue is =
     let session = dialogue.session in
     let first : is.first ≡ first_line [] = sym (is.read ∙ append-nil is.input ∙ is.front.0) in
     let served = subst (λ f. IsServing f is.behind is.output session.number session.device session.tickets.items
-    dialogue.kept.items) first is.serving in
-    let none = nothing_answered is.output session.number session.device session.tickets.items dialogue.kept.items
-    (subst (λ b. IsServing (first_line []) b is.output session.number session.device session.tickets.items
+    session.told dialogue.kept.items) first is.serving in
+    let none = nothing_answered is.output session.number session.device session.tickets.items session.told
+    dialogue.kept.items (subst (λ b. IsServing (first_line []) b is.output session.number session.device session.tickets.items session.told
     dialogue.kept.items) is.front.1 served) in
     let written = is.written ∙ none in
     absurd cc

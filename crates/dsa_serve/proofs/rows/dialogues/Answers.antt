@@ -1,7 +1,8 @@
 use Rattle.dsa_serve.proofs.rows.dialogues.Goals as goal
 use Rattle.dsa_book.specs.declared.answer.Reply.TheVariants as reply
 use Rattle.dsa_book.specs.declared.event.Event.TheVariants as event
-use Rattle.std.proofs.Common.{◌++◌, ℕ, ◌≢◌, true, false, List, [], ◌∷◌, codes, refl, lit≤, lit<, arith, sym, append-nil, inl, inr}
+use Rattle.dsa_scenario.specs.Steps.{visits}
+use Rattle.std.proofs.Common.{◌++◌, ℕ, ◌≢◌, true, false, List, [], ◌∷◌, codes, map, refl, lit≤, lit<, arith, sym, append-nil, inl, inr}
 use Rattle.std.specs.Fmt.{digits}
 use Rattle.std.proofs.lemmas.List.Elements.{All-nil, All-cons}
 use Rattle.dsa_book.specs.declared.answer.PollAnswer.TheVariants.{Nothing}
@@ -10,12 +11,13 @@ use Rattle.dsa_book.specs.State.{opening}
 use Rattle.dsa_scenario.specs.{Lines.{line_of_text}, Worked.{smallest_caps, stepped}}
 use Rattle.dsa_scenario.specs.Worked.{caps_of_a_run, actions_of_a_run, records_of_a_run}
 use Rattle.dsa_serve.specs.declared.requests.LineFault.TheVariants.{NotJson}
-use Rattle.dsa_serve.specs.declared.requests.Request.TheVariants.{Explain, Fault}
+use Rattle.dsa_device.specs.Running.{running_at_first}
+use Rattle.dsa_serve.specs.Requests.{Explain, Fault}
 use Rattle.dsa_serve.specs.{Input.{IsLine, AreLines, HasFirst}, Dialogue.{IsDialogue, AnswersWhole, AnswersAll}}
-use Rattle.dsa_serve.specs.Worked.{poll_line, explained_poll_line, first_line}
+use Rattle.dsa_serve.specs.Worked.{poll_line, explained_poll_line, first_line, unseen}
 use Rattle.dsa_serve.proofs.RowLines.{line_by_test}
 use Rattle.dsa_serve.proofs.RowDialogues.{bare_document, poll_document, bare_line, open_brace, nothing_behind}
-use Rattle.dsa_serve.proofs.RowDialogues.{asks_no_json, asks_explained_poll, dialogue_by, bare_dialogue}
+use Rattle.dsa_serve.proofs.RowDialogues.{asks_no_json, asks_explained_poll, dialogue_by, bare_dialogue, all_unseen}
 
 pub returns-clause-no_lines : goal.returns-clause-no_lines
 returns-clause-no_lines c = bare_dialogue
@@ -26,9 +28,11 @@ polled = stepped event.Poll (reply.Poll Nothing)
 pub returns-clause-lines : goal.returns-clause-lines
 unfolding digits
 returns-clause-lines c =
-    dialogue_by (first_line poll_line) (codes "{" ∷ explained_poll_line ∷ []) (Ask event.Poll ∷ [])
-    (Fault NotJson ∷ Explain (Ask event.Poll) ∷ []) (polled ∷ polled ∷ []) poll_document
+    dialogue_by (first_line poll_line) (codes "{" ∷ explained_poll_line ∷ []) ((Ask event.Poll, unseen) ∷ [])
+    (Fault NotJson ∷ Explain (Ask event.Poll) unseen ∷ []) (polled ∷ polled ∷ []) poll_document
     (asks_no_json, (asks_explained_poll, tt)) (refl, (refl, tt)) refl refl
+    (all_unseen (running_at_first smallest_caps 9) (Ask event.Poll ∷ Ask event.Poll ∷ [])
+    (visits smallest_caps 9 [] (polled ∷ polled ∷ [])))
 
 -- the first line of such an input, and the lines behind it
 split : (behind : List ℕ) → HasFirst false (line_of_text (first_line []) ++ behind) (first_line []) behind
@@ -45,7 +49,7 @@ no_line : AreLines (codes "{") [] (codes "{")
 no_line = record { joined = refl; each = All-nil IsLine; last = open_brace }
 
 dialogue : IsDialogue (first_line []) (codes "{" ∷ []) (opening smallest_caps) (codes "fault not JSON\n")
-dialogue = dialogue_by (first_line []) (codes "{" ∷ []) [] (Fault NotJson ∷ []) [] bare_document (asks_no_json, tt) tt refl refl
+dialogue = dialogue_by (first_line []) (codes "{" ∷ []) [] (Fault NotJson ∷ []) [] bare_document (asks_no_json, tt) tt refl refl tt
 
 -- what answers the whole lines of such an input, and what answers all of them
 whole_of : (behind rest : List ℕ) → AreLines behind (codes "{" ∷ []) rest
@@ -131,7 +135,9 @@ returns-clause-memory c rest long = (
 
 poll_dialogue : IsDialogue (first_line poll_line) [] (opening smallest_caps) (codes "nothing\n")
 poll_dialogue =
-    dialogue_by (first_line poll_line) [] (Ask event.Poll ∷ []) [] (polled ∷ []) poll_document tt (refl, tt) refl refl
+    dialogue_by (first_line poll_line) [] ((Ask event.Poll, unseen) ∷ []) [] (polled ∷ []) poll_document tt (refl, tt)
+    refl refl (all_unseen (running_at_first smallest_caps 9) (Ask event.Poll ∷ [])
+    (visits smallest_caps 9 [] (polled ∷ [])))
 
 only_line : AnswersWhole true (first_line poll_line) (codes "nothing\n")
 only_line = record {
@@ -162,7 +168,7 @@ returns-clause-ended c first document = record {
   dialogue = record {
     caps = caps_of_a_run;
     capacity = 7;
-    actions = actions_of_a_run;
+    observed = map (λ action. (action, unseen)) actions_of_a_run;
     requests = [];
     records = records_of_a_run;
     document = document;
@@ -171,6 +177,8 @@ returns-clause-ended c first document = record {
     of_actions = (refl, (refl, (refl, (refl, (refl, (refl, (refl, (refl, (refl, tt)))))))));
     run = refl;
     replayed = refl;
+    closest = all_unseen (running_at_first caps_of_a_run 7) actions_of_a_run
+        (visits caps_of_a_run 7 [] records_of_a_run);
     answered = refl;
   };
   with_fates = refl;

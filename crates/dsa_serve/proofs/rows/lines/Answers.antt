@@ -1,13 +1,16 @@
 use Rattle.dsa_serve.proofs.rows.lines.Goals as goal
 use Rattle.std.proofs.Common.{codes, refl, arith, lit≤}
 use Rattle.serde_json.proofs.OnLiterals.{serde_json_on_literals}
-use Rattle.dsa_serve.proofs.RowDialogues.{read_as, asks_poll, asks_explained_poll, asks_no_json}
+use Rattle.dsa_serve.proofs.RowDialogues.{read_as, asks_poll, asks_explained_poll, asks_show, asks_fates, asks_no_json}
 
 pub returns : goal.returns
 unfolding serde_json_on_literals
 returns c = record {
   step = asks_poll;
   explained = asks_explained_poll;
+  show = asks_show;
+  fates = asks_fates;
+  too_long_to_show = λ line long is. let few = is.0 in omega (arith, long, few);
   no_step = (lit≤ tt, read_as (codes "{}") _ _ (codes "{}", (refl, refl)) refl refl);
   cut = asks_no_json;
   too_long = λ line long. omega (arith, long);

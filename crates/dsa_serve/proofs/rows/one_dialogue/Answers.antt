@@ -10,34 +10,36 @@ use Rattle.dsa_book.specs.declared.answer.{Reply.{Reply}, PollAnswer.TheVariants
 use Rattle.dsa_book.specs.declared.event.Event.TheVariants.{Poll}
 use Rattle.dsa_book.specs.{Machine.{next, is_run}, State.{State, opening}}
 use Rattle.dsa_book.proofs.Nexts.{next-is}
+use Rattle.dsa_device.specs.Running.{running_at_first}
 use Rattle.dsa_scenario.specs.declared.{actions.Action.{Action, TheVariants.{Ask}}, run.Record.{Record, TheVariants.{Stepped, Refused}}}
 use Rattle.dsa_scenario.specs.Lines.{record_text, reply_text, line_of_text}
-use Rattle.dsa_scenario.specs.{Run.{AreOf, steps_of_records}, Steps.{visits}}
+use Rattle.dsa_scenario.specs.{Run.{AreOf, steps_of_records}, Steps.{standing, visits}}
 use Rattle.dsa_scenario.specs.Worked.{smallest_caps, smallest_caps_text, no_caps_text, document_text}
 use Rattle.dsa_serve.specs.declared.requests.LineFault.TheVariants.{NotJson}
-use Rattle.dsa_serve.specs.declared.requests.Request.{Request, TheVariants.{Step, Fault}}
-use Rattle.dsa_serve.specs.{Requests.{actions_of}, Answers.{answers}}
+use Rattle.dsa_conform.specs.Seen.{Seen}
+use Rattle.dsa_serve.specs.Requests.{Request, Step, Fault, actions_of}
+use Rattle.dsa_serve.specs.Answers.{answers}
 use Rattle.dsa_serve.specs.Input.{IsLine, with_rest}
-use Rattle.dsa_serve.specs.{Dialogue.{from_document, IsDialogue, AnswersWhole}, Worked.{first_line, poll_line}}
+use Rattle.dsa_serve.specs.{Dialogue.{from_document, IsDialogue, AnswersWhole}, Worked.{first_line, poll_line, unseen}}
 use Rattle.dsa_serve.proofs.RowLines.{no_lines, one_way, one_division}
 use Rattle.dsa_serve.proofs.RowDialogues.{parts_are, no_document, bare_parts, bare_line, open_brace, no_request, one_fault}
 
 pub returns-clause-no_document : goal.returns-clause-no_document
 unfolding serde_json_on_literals
 returns-clause-no_document c last output is =
-    no_document (codes "{}") is.caps is.capacity is.actions _ refl refl is.document
+    no_document (codes "{}") is.caps is.capacity is.observed _ refl refl is.document
 
 pub returns-clause-bad_caps : goal.returns-clause-bad_caps
 unfolding serde_json_on_literals
 returns-clause-bad_caps c last output is =
-    let parts = parts_are (document_text no_caps_text (codes "9") []) is.caps is.capacity is.actions _ _ refl refl
+    let parts = parts_are (document_text no_caps_text (codes "9") []) is.caps is.capacity is.observed _ _ refl refl
     is.document in
     false≢true (ap check_caps parts.0 ∙ is.opening.good)
 
 pub returns-clause-large : goal.returns-clause-large
 unfolding serde_json_on_literals
 returns-clause-large c last output is =
-    let parts = parts_are (document_text smallest_caps_text (codes "1048577") []) is.caps is.capacity is.actions _ _ refl
+    let parts = parts_are (document_text smallest_caps_text (codes "1048577") []) is.caps is.capacity is.observed _ _ refl
     refl is.document in
     let capacity : 1_048_577 ≡ is.capacity = parts.1 in
     omega (arith, capacity, is.opening.small)
@@ -48,20 +50,22 @@ no_records (r ∷ records) h = absurd h
 
 -- a first line without steps, and no lines
 bare_requests : (last : State) (output : List ℕ) → (is : IsDialogue (first_line []) [] last output)
-    → from_document is.actions is.requests ≡ []
+    → from_document is.observed is.requests ≡ []
 bare_requests last output is =
-    rw (bare_parts is.caps is.capacity is.actions is.document).1 (no_request is.requests is.asked)
+    rw (bare_parts is.caps is.capacity is.observed is.document).1 (no_request is.requests is.asked)
 
 state_is : (last : State) (output : List ℕ) → IsDialogue (first_line []) [] last output → last ≡ opening smallest_caps
 state_is last output is =
     let records : is.records ≡ [] = no_records is.records (rw (bare_requests last output is) at is.of_actions) in
     let opened : Some (opening is.caps) ≡ Some last = rw records at is.replayed in
-    let caps = (bare_parts is.caps is.capacity is.actions is.document).0 in
+    let caps = (bare_parts is.caps is.capacity is.observed is.document).0 in
     cc
 
 output_is : (last : State) (output : List ℕ) → IsDialogue (first_line []) [] last output → output ≡ []
 output_is last output is =
-    is.answered ∙ ap (λ rs. answers rs (visits is.caps is.capacity [] is.records)) (bare_requests last output is)
+    is.answered
+    ∙ ap (λ rs. answers (running_at_first is.caps is.capacity) 0 rs (visits is.caps is.capacity [] is.records))
+    (bare_requests last output is)
 
 pub returns-clause-one_state : goal.returns-clause-one_state
 returns-clause-one_state c last output is = state_is last output is
@@ -78,46 +82,51 @@ answer_is : (last : State) (output : List ℕ) → IsDialogue (first_line []) (c
     → output ≡ codes "fault not JSON\n"
 unfolding serde_json_on_literals
 answer_is last output is =
-    let requests : from_document is.actions is.requests ≡ Fault NotJson ∷ [] =
-    rw (bare_parts is.caps is.capacity is.actions is.document).1
+    let requests : from_document is.observed is.requests ≡ Fault NotJson ∷ [] =
+    rw (bare_parts is.caps is.capacity is.observed is.document).1
     (one_fault (codes "{") is.requests (lit≤ tt) refl is.asked) in
-    is.answered ∙ ap (λ rs. answers rs (visits is.caps is.capacity [] is.records)) requests
+    is.answered
+    ∙ ap (λ rs. answers (running_at_first is.caps is.capacity) 0 rs (visits is.caps is.capacity [] is.records)) requests
 
 pub returns-clause-one_answer : goal.returns-clause-one_answer
 returns-clause-one_answer c last output is = answer_is last output is
 
 -- an answer to a step is a line
-no_answer : (actions : List Action) (requests : List Request) (records : List Record) (caps : Caps) (capacity : ℕ)
-    → actions ≡ Ask Poll ∷ [] → AreOf [] (actions_of (from_document actions requests)) records
-    → [] ≡ answers (from_document actions requests) (visits caps capacity [] records) → ⊥
-no_answer actions requests [] caps capacity is of_actions answered =
+no_answer : (observed : List (Action × Seen)) (requests : List Request) (records : List Record) (caps : Caps)
+    (capacity : ℕ) → observed ≡ (Ask Poll, unseen) ∷ []
+    → AreOf [] (actions_of (from_document observed requests)) records
+    → [] ≡ answers (running_at_first caps capacity) 0 (from_document observed requests)
+    (visits caps capacity [] records) → ⊥
+no_answer observed requests [] caps capacity is of_actions answered =
     rw is at of_actions
-no_answer actions requests (r ∷ records) caps capacity is of_actions answered =
+no_answer observed requests (r ∷ records) caps capacity is of_actions answered =
     let lines = rw is at answered in
     absurd (omega (
       arith,
       ap length lines,
       length-append (record_text r) (10 ∷ []),
-      length-append (record_text r ++ 10 ∷ []) (answers requests (visits caps capacity (r ∷ []) records)),
+      length-append (record_text r ++ 10 ∷ [])
+          (answers (standing caps capacity (r ∷ [])) 0 requests (visits caps capacity (r ∷ []) records)),
     ))
 
-one_action : (actions : List Action) → Some (Ask Poll) ∷ [] ≡ map Some actions → actions ≡ Ask Poll ∷ []
+one_action : (observed : List (Action × Seen)) → Some (Ask Poll, unseen) ∷ [] ≡ map Some observed
+    → observed ≡ (Ask Poll, unseen) ∷ []
 one_action [] e = absurd cc
 one_action (a ∷ []) e = cc
-one_action (a ∷ b ∷ actions) e = absurd cc
+one_action (a ∷ b ∷ observed) e = absurd cc
 
 -- a first line with one step
 poll_head : (last : State) (output : List ℕ) → (is : IsDialogue (first_line poll_line) [] last output)
-    → (smallest_caps ≡ is.caps) × (9 ≡ is.capacity) × (is.actions ≡ Ask Poll ∷ [])
+    → (smallest_caps ≡ is.caps) × (9 ≡ is.capacity) × (is.observed ≡ (Ask Poll, unseen) ∷ [])
 unfolding serde_json_on_literals
 poll_head last output is =
-    let parts = parts_are (first_line poll_line) is.caps is.capacity is.actions _ _ refl refl is.document in
-    (parts.0, parts.1, one_action is.actions parts.2)
+    let parts = parts_are (first_line poll_line) is.caps is.capacity is.observed _ _ refl refl is.document in
+    (parts.0, parts.1, one_action is.observed parts.2)
 
 pub returns-clause-no_record : goal.returns-clause-no_record
 returns-clause-no_record c last is =
     let actions = (poll_head last [] is).2 in
-    no_answer is.actions is.requests is.records is.caps is.capacity actions is.of_actions is.answered
+    no_answer is.observed is.requests is.records is.caps is.capacity actions is.of_actions is.answered
 
 -- nothing else is answered to a poll of a new device
 a_value : {X : Type 0} (o : Option X) → is_some o ≡ true → (x : X) × (o ≡ Some x)
@@ -133,7 +142,8 @@ poll_reply r run =
 
 poll_text_is : (records : List Record) (caps : Caps) (capacity : ℕ) → AreOf [] (Ask Poll ∷ []) records
     → is_run smallest_caps 9 (steps_of_records records) ≡ true
-    → answers (Step (Ask Poll) ∷ []) (visits caps capacity [] records) ≡ codes "nothing\n"
+    → answers (running_at_first caps capacity) 0 (Step (Ask Poll) unseen ∷ []) (visits caps capacity [] records)
+    ≡ codes "nothing\n"
 poll_text_is [] caps capacity of run = absurd of
 poll_text_is (Refused fault ∷ []) caps capacity of run =
     let refused = of.0 in
@@ -148,13 +158,14 @@ poll_text_is (entry ∷ other ∷ records) caps capacity of run = absurd of.1
 pub returns-clause-one_run : goal.returns-clause-one_run
 returns-clause-one_run c last output is =
     let head = poll_head last output is in
-    let asks : from_document is.actions is.requests ≡ Step (Ask Poll) ∷ [] =
-    rw head.2 (ap (λ rs. Step (Ask Poll) ∷ rs) (no_request is.requests is.asked)) in
+    let asks : from_document is.observed is.requests ≡ Step (Ask Poll) unseen ∷ [] =
+    rw head.2 (ap (λ rs. Step (Ask Poll) unseen ∷ rs) (no_request is.requests is.asked)) in
     let of : AreOf [] (Ask Poll ∷ []) is.records = rw asks at is.of_actions in
     let steps = steps_of_records is.records in
     let run : is_run smallest_caps 9 steps ≡ true =
     ap (λ caps. is_run caps 9 steps) head.0 ∙ ap (λ n. is_run is.caps n steps) head.1 ∙ is.run in
-    is.answered ∙ ap (λ rs. answers rs (visits is.caps is.capacity [] is.records)) asks
+    is.answered
+    ∙ ap (λ rs. answers (running_at_first is.caps is.capacity) 0 rs (visits is.caps is.capacity [] is.records)) asks
     ∙ poll_text_is is.records is.caps is.capacity of run
 
 -- ---- where one stopped

@@ -6,11 +6,12 @@ use Rattle.std.specs.{Prelude.{Some, IsUtf8}, Io.KnownBytes.{IsAtEnd}}
 use Rattle.std.proofs.{Math.ListN.{get_or-append}, lemmas.List.Elements.{All-nil, All-cons, All-head}}
 use Rattle.dsa_scenario.specs.declared.faults.ScenarioFault.TheVariants.{Write}
 use Rattle.dsa_scenario.specs.Document.{IsNoJson, HasNoHead}
+use Rattle.dsa_conform.specs.Run.{IsUnread}
 use Rattle.dsa_book.specs.State.{State}
 use Rattle.serde_json.{specs.Read.{read}, proofs.OnLiterals.{serde_json_on_literals}}
 use Rattle.dsa_serve.specs.Input.{IsLine, IsFront, HasFirst, with_rest}
 use Rattle.dsa_serve.specs.Dialogue.{IsDialogue, AnswersWhole, AnswersAll, AnswersSoFar, IsStopped}
-use Rattle.dsa_serve.proofs.{RowLines.{no_feed_behind}, RowDialogues.{no_dialogue}}
+use Rattle.dsa_serve.proofs.{RowLines.{no_feed_behind}, RowDialogues.{headless, no_dialogue}}
 
 one : IsLine (codes "1")
 one = All-cons (λ byte. byte ≢ 10) 49 [] (λ same. absurd (omega (arith, same))) (All-nil (λ byte. byte ≢ 10))
@@ -103,19 +104,24 @@ no_head : HasNoHead (codes "1")
 unfolding serde_json_on_literals
 no_head = record { document = _; json = record { utf8 = (codes "1", (refl, refl)); value = refl }; none = refl }
 
+-- so no object of it is one that is not read
+none_unread : (i : ℕ) → ¬ IsUnread (codes "1") i
+unfolding serde_json_on_literals
+none_unread i is = headless (codes "1") is.caps is.capacity is.steps _ refl refl is.head
+
 pub returns-clause-document : goal.returns-clause-document
 returns-clause-document c =
-    (codes "1", codes "1", [], true, refl, number_first true (codes "1") [] (refl, refl), λ ended. refl, omega arith, no_head, refl)
+    (codes "1", codes "1", [], true, refl, number_first true (codes "1") [] (refl, refl), λ ended. refl, omega arith, (no_head, none_unread), refl)
 
 pub returns-clause-document_before_more : goal.returns-clause-document_before_more
 returns-clause-document_before_more c =
-    (codes "1\n", codes "1", [], false, refl, number_first false (codes "1\n") [] refl, λ ended. absurd cc, omega arith, no_head, refl)
+    (codes "1\n", codes "1", [], false, refl, number_first false (codes "1\n") [] refl, λ ended. absurd cc, omega arith, (no_head, none_unread), refl)
 
 pub returns-clause-other_fault : goal.returns-clause-other_fault
 unfolding serde_json_on_literals
 returns-clause-other_fault c is =
     let first = first_is (codes "1") one no_dialogue is.3 is.0 is.1 is.2 (is.4 ∙ append-nil is.0) is.5 in
-    let none = subst (λ f. IsUtf8 f → read f ≡ None) (sym first) is.8 (codes "1", (refl, refl)) in
+    let none = subst (λ f. IsUtf8 f → read f ≡ None) (sym first) is.8.0 (codes "1", (refl, refl)) in
     absurd cc
 
 pub returns-clause-nothing_yet : goal.returns-clause-nothing_yet
@@ -251,7 +257,7 @@ returns-clause-fault_with_a_read_behind c rest few = (
   record { line = All-nil (λ byte. byte ≢ 10); short = omega arith; front = refl },
   λ ended. absurd cc,
   omega (arith, few),
-  λ text. refl,
+  (λ text. refl, λ i is. let value = is.head.json.value in absurd cc),
   refl,
 )
 

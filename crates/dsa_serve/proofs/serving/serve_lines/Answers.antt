@@ -1,5 +1,5 @@
 use Rattle.dsa_serve.proofs.serving.serve_lines.Goals as goal
-use Rattle.std.proofs.{Common.{Ok, ap, arith, ◌∙◌, rules}, lemmas.Result.{err_from_is_err_and}}
+use Rattle.std.proofs.{Common.{Ok, ap, arith, ◌∙◌}, lemmas.Result.{err_from_is_err_and}}
 use Rattle.dsa_serve.proofs.Counts.{asked_on, read_then, read_told}
 
 pub returns-in_err-turn-clause-reader : goal.returns-in_err-turn-clause-reader

@@ -20,7 +20,7 @@ returns-in_err-write_text-clause-stopped g c =
     let short : length c.in_ok-front.front.first.items ≤ 2 ^ 20 =
     omega (arith, c.in_ok-front.ensures.fits, c.in_ok-front.front.first.ok.0) in
     let cut = c.in_err-write_text.ensures.prefix in
-    rw (p.1, p.2, c.in_err-write_text.ensures.fault) (first_write_stops _ _ _ _ _ bytes.0 _ _ _ _ cut.0 _ _ _ _
+    rw (p.1, p.2, c.in_err-write_text.ensures.fault) (first_write_stops _ _ _ _ _ bytes.0 _ _ _ _ cut.0 _ _ _ _ _
     bytes.1 bytes.2 short bytes.3 c.in_ok-front.ensures.end c.as_bytes.ensures.value (c.in_ok-dialogue.ensures.ok c.new-text.ensures.bytes) cut.1
     cut.2)
 

@@ -1,5 +1,5 @@
 use Rattle.dsa_serve.proofs.serving.turn.Goals as goal
-use Rattle.std.proofs.{Common.{false, take, arith}, lemmas.Result.{err_from_is_err_and}}
+use Rattle.std.proofs.{Common.{take, arith}, lemmas.Result.{err_from_is_err_and}}
 use Rattle.dsa_serve.proofs.Stops.{course_on, unread_stops, memory_stops, write_stops, from_blank}
 
 pub returns-in_err-count-clause-stopped : goal.returns-in_err-count-clause-stopped

@@ -3,4 +3,4 @@ use Rattle.std.proofs.Common.{arith}
 use Rattle.std.proofs.lemmas.Grind.{common_steps}
 
 pub returns : goal.returns
-returns = grind (arith, common_steps)
+returns = grind (arith, common_steps) steps 20000000

@@ -13,14 +13,14 @@ returns g c =
     on_ok_weaker c.add_rows.result
     (λ adds first behind written h. elim c.if-not-is_empty.branch [
       | then-not-is_empty+in_ok-answer w ↦
-          ended_rest first behind written _ (string_bytes c.if-not-is_empty.text) _ _ _ _ kept w.deref.result.now
+          ended_rest first behind written _ (string_bytes c.if-not-is_empty.text) _ _ _ _ _ kept w.deref.result.now
           c.if-not-is_empty.self.session.number c.if-not-is_empty.self.session.device
-          c.if-not-is_empty.self.session.tickets.items _
+          c.if-not-is_empty.self.session.tickets.items c.if-not-is_empty.self.session.told _
           (omega (arith, eqb-false (length kept) 0 (sym empty ∙ w.if-not-is_empty.true))) w.deref.ensures.value
           (rw (w.self-is, w.text-is) w.in_ok-answer.ensures) c.fates.ensures adds h
       | else-not-is_empty w ↦
           let none = nil_from_length kept (eqb-true (length kept) 0 (sym empty ∙ w.if-not-is_empty.false)) in
-          ended_whole first behind written _ _ _ _ _ kept _ none
+          ended_whole first behind written _ _ _ _ _ _ kept _ none
           (rw w.self-is at c.fates.ensures) (rw w.text-is at adds) h
     ])
     c.add_rows.ensures

@@ -1,27 +1,38 @@
 use Rattle.dsa_serve.proofs.session.Session.answer.Goals as goal
+use Rattle.std.proofs.Common.{arith}
 use Rattle.std.proofs.lemmas.Result.{on_ok_weaker}
-use Rattle.dsa_serve.specs.declared.requests.Request.TheVariants.{Step, Explain, Fault}
-use Rattle.dsa_serve.proofs.Sessions.{missed}
+use Rattle.serde_json.specs.View.{view}
+use Rattle.dsa_serve.specs.declared.requests.LineFault.TheVariants.{NotJson, TooLong}
+use Rattle.dsa_serve.specs.Requests.{Fault, request_of}
+use Rattle.dsa_serve.proofs.{Asking.{Asks-read, Asks-no_json}, Sessions.{missed}}
 
-pub returns-in-Fault : goal.returns-in-Fault
-returns-in-Fault g c =
+pub returns-then-line-gt-MAX_LINE : goal.returns-then-line-gt-MAX_LINE
+returns-then-line-gt-MAX_LINE g c =
     on_ok_weaker c.add_fault.result
-    (λ adds caps capacity requests written h. (
-      Fault c.in-Fault.fault,
-      rw c.in-Fault.is at c.in_ok-action.ensures,
-      missed caps capacity requests c.in-Fault.fault _ _ _ written _ _ adds h,
+    (λ adds caps room rs written h. (
+      Fault TooLong,
+      omega (arith, c.if-line-gt-MAX_LINE.true),
+      missed caps room rs TooLong _ _ _ _ written _ _ adds h,
     ))
     c.add_fault.ensures
 
-pub returns-in-Step : goal.returns-in-Step
-returns-in-Step g c =
-    let asked = rw c.in-Step.is at c.in_ok-action.ensures in
-    on_ok_weaker c.step.result
-    (λ steps caps room rs written h. (Step c.in-Step.action, asked, steps caps room rs written h)) c.step.ensures
+pub returns-in-Ok : goal.returns-in-Ok
+returns-in-Ok g c =
+    on_ok_weaker c.answer_value.result
+    (λ goes caps room rs written h. (
+      request_of (view c.in-Ok.value),
+      Asks-read c.args.line.now (view c.in-Ok.value) (omega (arith, c.if-line-gt-MAX_LINE.false)) c.in-Ok.ensures.ok,
+      goes caps room rs written h,
+    ))
+    c.answer_value.ensures
 
-pub returns-in-Explain : goal.returns-in-Explain
-returns-in-Explain g c =
-    let asked = rw c.in-Explain.is at c.in_ok-action.ensures in
-    on_ok_weaker c.explain.result
-    (λ explains caps room rs written h. (Explain c.in-Explain.action, asked, explains caps room rs written h))
-    c.explain.ensures
+pub returns-in-Err-NotJson : goal.returns-in-Err-NotJson
+returns-in-Err-NotJson g c =
+    on_ok_weaker c.add_fault-in-Err-NotJson.result
+    (λ adds caps room rs written h. (
+      Fault NotJson,
+      Asks-no_json c.args.line.now _ (omega (arith, c.if-line-gt-MAX_LINE.false)) c.in-Err-NotJson.field-0-is
+          c.in-Err-NotJson.ensures.err,
+      missed caps room rs NotJson _ _ _ _ written _ _ adds h,
+    ))
+    c.add_fault-in-Err-NotJson.ensures

@@ -1,0 +1,127 @@
+// A program in Rust over dsa_model_sys.rs, which lies beside it: a No-op from its portal to its end, and what crosses.
+mod dsa_model_sys;
+
+use dsa_model_sys::*;
+use std::ffi::CStr;
+use std::mem::size_of;
+
+fn sizes() {
+    assert_eq!(
+        (size_of::<dsa_model>(), size_of::<dsa_descriptor>()),
+        (16, 64)
+    );
+    assert_eq!(
+        (
+            size_of::<dsa_caps>(),
+            size_of::<dsa_queue>(),
+            size_of::<dsa_group>()
+        ),
+        (14, 12, 24)
+    );
+    assert_eq!(
+        (
+            size_of::<dsa_limits>(),
+            size_of::<dsa_answer>(),
+            size_of::<dsa_ending>()
+        ),
+        (2, 16, 16)
+    );
+    assert_eq!(
+        (
+            size_of::<dsa_entry>(),
+            size_of::<dsa_batch>(),
+            size_of::<dsa_event>()
+        ),
+        (28, 16, 40)
+    );
+}
+
+fn name(text: *const core::ffi::c_char) -> &'static str {
+    unsafe { CStr::from_ptr(text) }.to_str().unwrap()
+}
+
+fn names() {
+    unsafe {
+        assert_eq!(name(dsa_kind_name(DSA_NO_BUFFERS)), "no buffers");
+        assert_eq!(name(dsa_fault_name(DSA_FAULT_BAD_INDEX)), "BadIndex");
+        assert_eq!(name(dsa_command_name(DSA_ABORT_PASID)), "Abort PASID");
+        assert_eq!(
+            name(dsa_status_name(DSA_STATUS_BATCH_FAIL)),
+            "DSA_COMP_BATCH_FAIL"
+        );
+        assert_eq!(
+            name(dsa_operation_name(DSA_OP_COMPARE)),
+            "DSA_OPCODE_COMPARE"
+        );
+        assert_eq!(name(dsa_operation_name(256)), "?");
+    }
+}
+
+fn enabled() -> dsa_model {
+    let caps = dsa_caps {
+        queues: 1,
+        groups: 1,
+        engines: 1,
+        total_size: 8,
+        read_buffers: 16,
+        slots: 2,
+        max_batch_shift: 3,
+        max_xfer_shift: 20,
+    };
+    let queue = dsa_queue {
+        size: 8,
+        threshold: 3,
+        dedicated: 0,
+        priority: 1,
+        max_batch_shift: 3,
+        max_xfer_shift: 20,
+        pasid: 0,
+    };
+    let group = dsa_group {
+        queues: 1,
+        engines: 1,
+        reserved: 4,
+        allowed: 4,
+    };
+    let mut model = DSA_CLOSED;
+    unsafe {
+        assert_eq!(dsa_open(&mut model, &caps, 100), DSA_OPENED);
+        assert_eq!(dsa_write_queue(&mut model, 0, &queue).kind, DSA_WRITTEN);
+        assert_eq!(dsa_write_group(&mut model, 0, &group).kind, DSA_WRITTEN);
+        for word in [
+            DSA_COMMAND(DSA_ENABLE_DEVICE, 0),
+            DSA_COMMAND(DSA_ENABLE_WQ, 0),
+        ] {
+            assert_eq!(dsa_command(&mut model, word).kind, DSA_ENDED);
+        }
+    }
+    model
+}
+
+fn main() {
+    sizes();
+    names();
+    let (mut model, nothing) = (enabled(), dsa_descriptor { bytes: [0; 64] });
+    unsafe {
+        let accepted = dsa_enqcmd(&mut model, 0, 0, DSA_LIMITED, 5, &nothing);
+        assert_eq!(
+            accepted,
+            dsa_answer {
+                kind: DSA_ACCEPTED,
+                ..accepted
+            }
+        );
+        let taken = dsa_dispatch(&mut model, 0);
+        assert_eq!(
+            (taken.kind, taken.name, taken.cell),
+            (DSA_TAKEN, accepted.name, accepted.cell)
+        );
+        let done = dsa_finish(&mut model, 0, taken.cell, taken.name, DSA_SUCCESS);
+        assert_eq!((done.kind, done.more), (DSA_DONE, DSA_STATUS_SUCCESS));
+        assert_eq!(dsa_fate_of(&model, taken.name).kind, DSA_COMPLETED);
+        dsa_close(&mut model);
+        assert_eq!((dsa_held(&model), dsa_closed().holds), (DSA_NONE, false));
+        dsa_close(core::ptr::null_mut());
+        assert_eq!(dsa_version(), DSA_VERSION);
+    }
+}

@@ -1,0 +1,4 @@
+pub mod Words
+pub mod Selected
+pub mod Run
+pub mod Worked

@@ -1,0 +1,81 @@
+//! A document in, what is made of its run as it was seen out.
+
+ghost use Rattle.std.specs.Prelude.{◌≤◌, map, length};
+ghost use Rattle.serde_json.specs.View.{view};
+ghost use Rattle.dsa_conform.specs.Run.{AreAllRead};
+ghost use Rattle.dsa_conform.specs.AsSeen.{IsMadeAsSeen, IsToldAsSeen};
+
+use crate::rendering::{TellSteps, render_told};
+use crate::retelling::{count_shown, retell};
+use crate::walk::{Verdict, walk_steps};
+use crate::way::{Way, queues_taken};
+use dsa_scenario::{Head, Render, RenderSteps, Rendered};
+use std::alloc::{AllocError, Global};
+
+/// What is made of a run of a document that shows what was seen, as a way to make a text of it.
+///
+/// It is the run that a comparison follows. Where no run shows what was seen of a step, it shows
+/// what was seen of those before, and goes on as the device does by itself.
+#[derive(Clone, Copy, Debug, Drop)]
+pub struct AsSeen<D: RenderSteps> {
+    /// What makes the text of the run.
+    pub what: D,
+}
+
+// A device that has answered the first steps, so many, as was seen.
+fn way_before(alloc: Global, head: &Head<'_>, count: usize) -> Result<Way, AllocError>
+    requires inside { count ≤ length head.now.steps.now }
+    requires read { AreAllRead (map view head.now.steps.now) }
+{
+    let before = Head {
+        caps: head.caps,
+        capacity: head.capacity,
+        steps: &head.steps[..count],
+    };
+    let verdict = walk_steps(alloc, &before)?;
+    verdict.way.ok_or(AllocError)
+}
+
+// The queues that it took from in turn. It is at hand where it has answered all steps.
+fn choices_before(
+    alloc: Global,
+    head: &Head<'_>,
+    count: usize,
+    at_hand: Option<Way>,
+) -> Result<Vec<u16>, AllocError>
+    requires inside { count ≤ length head.now.steps.now }
+    requires read { AreAllRead (map view head.now.steps.now) }
+{
+    let way = match at_hand {
+        Some(way) => way,
+        None => way_before(alloc, head, count)?,
+    };
+    queues_taken(alloc, way.device.history())
+}
+
+impl<D: RenderSteps> TellSteps for AsSeen<D> {
+    ghost is_told = { λ seen. IsToldAsSeen (D.is_text seen.what) };
+
+    ghost reads_all = { λ seen caps capacity steps i text h. h };
+
+    fn tell(&self, alloc: Global, head: &Head<'_>) -> Result<Verdict, AllocError> {
+        let Verdict { fault, way, .. } = walk_steps(alloc, head)?;
+        let count = count_shown(head.steps.len(), &fault);
+        let choices = choices_before(alloc, head, count, way)?;
+        let text = retell(alloc, &self.what, head, count, choices.as_slice())?;
+        Ok(Verdict {
+            text,
+            fault: None,
+            way: None,
+        })
+    }
+}
+
+impl<D: RenderSteps> Render for AsSeen<D> {
+    ghost is_rendering = { λ seen bytes fault text.
+        IsMadeAsSeen (D.is_text seen.what) bytes fault text };
+
+    fn render(&self, alloc: Global, bytes: &[u8]) -> Rendered {
+        render_told(alloc, self, bytes)
+    }
+}

@@ -1,0 +1,17 @@
+pub mod Alike
+pub mod Both
+pub mod Known
+pub mod Tests
+pub mod Engines
+pub mod Submits
+pub mod Orders
+pub mod Commands
+pub mod Steps
+pub mod Cells
+pub mod Keys
+pub mod SameSteps
+pub mod Marks
+pub mod Labelled
+pub mod Replays
+pub mod Short
+pub mod Parties

@@ -1,0 +1,3 @@
+pub mod OneClient
+pub mod Distinct
+pub mod Ends
