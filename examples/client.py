@@ -17,7 +17,7 @@ class Device:
 
     def __init__(self, program, document):
         self.process = Popen([program, "serve"], stdin=PIPE, stdout=PIPE, text=True)
-        self.answers = self.ask(document.line(), len(document.steps))
+        *self.answers, self.ready = self.ask(document.line(), len(document.steps) + 1)
 
     def ask(self, line, count=1):
         print(line, file=self.process.stdin, flush=True)

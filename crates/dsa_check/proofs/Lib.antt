@@ -3,10 +3,13 @@ pub mod Firsts
 pub mod Items
 pub mod Keys
 pub mod Nearest
+pub mod OneObject
 pub mod ReadTexts
+pub mod Remarked
 pub mod Repeated
 pub mod RowTexts
 pub mod Shallow
+pub mod Shown
 pub mod Spots
 pub mod Steps
 pub mod TableLaws

@@ -1,6 +1,6 @@
 -- The parts of a value nest no deeper than the value.
 use Rattle.std.proofs.Common.{◌≡◌, ◌≤◌, ℕ, zero, suc, List, [], ◌∷◌, Ordering, Less, Equal, Greater, sym, subst, arith}
-use Rattle.std.specs.Prelude.{Option, Some, IfSome}
+use Rattle.std.specs.{Prelude.{Option, Some, None, IfSome, option_map}, Borrow.{Bor}}
 use Rattle.std.specs.List.{All}
 use Rattle.std.specs.Ordering.{match_ordering, nat_cmp}
 use Rattle.std.specs.Cmp.Lexicographic.{slice_cmp}
@@ -53,3 +53,13 @@ pub items_shallow : (key : List ℕ) (d list : Data) (vs : List Value) → Some 
     → Some (items_view vs) ≡ as_array list → IsShallow d → All (λ v. IsShallow (view v)) vs
 items_shallow key d list vs there is h =
     array_at_most 127 list vs is (subst (AtMost 127) (sym there) (found_at_most key 127 d h))
+
+-- a value that is found at a key
+shallow_by : (found : Option (Bor Value)) → IfSome (option_map (λ v. view v.now) found) IsShallow
+    → IfSome found (λ v. IsShallow (view v.now))
+shallow_by None h = tt
+shallow_by (Some v) h = h
+
+pub found_shallow : (key : List ℕ) (d : Data) (found : Option (Bor Value))
+    → option_map (λ v. view v.now) found ≡ get key d → IsShallow d → IfSome found (λ v. IsShallow (view v.now))
+found_shallow key d found is h = shallow_by found (rw is (found_at_most key 127 d h))

@@ -12,7 +12,9 @@ use Rattle.json.specs.Json.{Json, document}
 use Rattle.std.specs.Prelude.{Option, Result, Ok, Err, IfOk}
 use Rattle.dsa_check.specs.declared.finding.{Finding.{Finding}, Reason.{Reason}, Judgement.{Judgement}}
 use Rattle.dsa_check.specs.Check.{first_of, faults_warned}
-use Rattle.dsa_check.specs.Lines.{reason_text, warning_line, warnings_text}
+use Rattle.dsa_check.specs.Lines.{reason_text}
+use Rattle.dsa_check.specs.Remarks.{Said, said, said_of_reasons, said_of_warning}
+use Rattle.dsa_check.specs.declared.remarks.Remark.{Remark}
 use Rattle.dsa_check.specs.Reasons.{is_below, nearest_below}
 use Rattle.dsa_check.specs.Warnings.{is_named, Warned, warned_in, warnings_of_step, step_warnings}
 use Rattle.dsa_check.specs.Warnings.{warnings_of_value, warnings_told}
@@ -37,18 +39,21 @@ pub first_later : (finding : Finding) (more : List Finding) → finding.reasons.
     → first_of (faults_warned true (finding ∷ more)) ≡ first_of (faults_warned true more)
 first_later finding more none = rw none refl
 
--- where none is told there are no lines
-no_lines_of : (finding : Finding) (reasons : List Reason) (more : List Warned) (lines : List ℕ)
-    → (more ≡ [] → lines ≡ [])
-    → warned_in finding.fault finding.place.kind (map reason_text reasons) ++ more ≡ []
-    → flat_map (warning_line finding) reasons ++ lines ≡ []
-no_lines_of finding [] more lines f none = f none
-no_lines_of finding (r ∷ rs) more lines f none = absurd cc
+-- where none is told nothing is said
+none_said_of : (finding : Finding) (reasons : List Reason) (more : List Warned) (rest : List Said)
+    → (more ≡ [] → rest ≡ []) → warned_in finding.fault finding.place.kind (map reason_text reasons) ++ more ≡ []
+    → said_of_reasons true finding reasons ++ rest ≡ []
+none_said_of finding [] more rest f none = f none
+none_said_of finding (r ∷ rs) more rest f none = absurd cc
 
-pub no_lines : (findings : List Finding) → warnings_told findings ≡ [] → warnings_text findings ≡ []
-no_lines [] none = refl
-no_lines (f ∷ fs) none =
-    no_lines_of f f.reasons.items (warnings_told fs) (warnings_text fs) (no_lines fs) none
+pub none_said : (findings : List Finding) → warnings_told findings ≡ [] → flat_map said_of_warning findings ≡ []
+none_said [] none = refl
+none_said (f ∷ fs) none =
+    none_said_of f f.reasons.items (warnings_told fs) (flat_map said_of_warning fs) (none_said fs) none
+
+pub no_remarks : (remarks : List Remark) → map said remarks ≡ [] → remarks ≡ []
+no_remarks [] none = refl
+no_remarks (remark ∷ remarks) none = absurd cc
 
 -- ---- names
 

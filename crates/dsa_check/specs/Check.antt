@@ -1,9 +1,12 @@
 -- What a check tells of a document.
-use Rattle.std.specs.Prelude.{◌≡◌, ℕ, Bool, true, false, List, [], ◌∷◌, ◌++◌, map, Option, Some, None}
+use Rattle.std.specs.Prelude.{◌≡◌, ℕ, Bool, true, false, List, [], ◌∷◌, ◌++◌, map, flat_map, Option, Some, None}
 use Rattle.dsa_scenario.specs.declared.faults.ScenarioFault.{ScenarioFault}
 use Rattle.dsa_check.specs.declared.{checking.Check.{Check}, finding.Finding.{Finding}}
 use Rattle.dsa_check.specs.{Findings.{AreFounded}, Judgement.{AreFaultsOf, IsJudged, faults_told}}
-use Rattle.dsa_check.specs.{Lines.{report_text, warnings_text}, Warnings.{AreWarningsOf, warnings_told}}
+use Rattle.dsa_check.specs.{declared.remarks.Remark.{Remark}, Lines.{remark_text}, Remarks.{AreRemarksOf}}
+use Rattle.dsa_check.specs.{declared.checking.CheckForm.{CheckForm, TheVariants.{Lines, Json, Source}}, Objects.{object_line}}
+use Rattle.dsa_check.specs.Sources.{source_text}
+use Rattle.dsa_check.specs.Warnings.{AreWarningsOf, warnings_told}
 
 abbrev pub first_of : List ScenarioFault → Option ScenarioFault
 first_of [] = None
@@ -14,9 +17,18 @@ abbrev pub faults_warned : Bool → List Finding → List ScenarioFault
 faults_warned false warnings = []
 faults_warned true warnings = map (λ warning. warning.0) (warnings_told warnings)
 
+-- a remark of these bytes in a form, and all of them
+abbrev pub text_in : CheckForm → List ℕ → Remark → List ℕ
+text_in Lines bytes remark = remark_text remark
+text_in Json bytes remark = object_line remark
+text_in (Source is_colored) bytes remark = remark_text remark ++ source_text is_colored bytes remark
+
+abbrev pub report_text : CheckForm → List ℕ → List Remark → List ℕ
+report_text form bytes remarks = flat_map (text_in form bytes) remarks
+
 -- the text has the lines of all faults of the document, and after them those of all warnings; each line tells what is
--- so of the part that it names. The fault is the first of those that have a line; a warning counts as one in a strict
--- check only. There is none where none counts
+-- so of the part that it names, and where. The fault is the first of those that have a line; a warning counts as one
+-- in a strict check only. There is none where none counts
 pub record IsCheckReportOf (check : Check) (bytes : List ℕ) (fault : Option ScenarioFault) (text : List ℕ) : Type 0
   where
     pub findings : List Finding
@@ -26,4 +38,6 @@ pub record IsCheckReportOf (check : Check) (bytes : List ℕ) (fault : Option Sc
     pub warnings : List Finding
     pub warned : AreWarningsOf bytes warnings
     pub first : fault ≡ first_of (faults_told findings ++ faults_warned check.is_strict warnings)
-    pub lines : text ≡ report_text findings ++ warnings_text warnings
+    pub remarks : List Remark
+    pub remarked : AreRemarksOf bytes findings warnings remarks
+    pub lines : text ≡ report_text check.form bytes remarks

@@ -3,9 +3,14 @@ pub mod Findings
 pub mod Flaws
 pub mod Judgement
 pub mod Lines
+pub mod Members
+pub mod Objects
+pub mod OneStep
 pub mod Places
 pub mod Reasons
+pub mod Remarks
 pub mod Repeats
+pub mod Sources
 pub mod Tables
 pub mod Warnings
 pub mod Worked

@@ -3,7 +3,7 @@ use Rattle.dsa_check.specs.declared.syntax.Wanted.TheVariants as wanted
 use Rattle.dsa_check.specs.declared.finding.Reason.TheVariants as reason
 use Rattle.dsa_scenario.specs.declared.fields.Form.TheVariants as form
 use Rattle.dsa_check.specs.declared.fields.Found.TheVariants as found
-use Rattle.std.specs.Prelude.{ℕ, Bool, true, false, List, [], ◌∷◌, ◌++◌, Option, Some, None, codes, decimal, flat_map}
+use Rattle.std.specs.Prelude.{ℕ, Bool, true, false, List, [], ◌∷◌, ◌++◌, Option, Some, None, codes, decimal}
 use Rattle.std.specs.Prelude.{option_map}
 use Rattle.std.specs.Prelude.{nat_lt, if◌then◌else◌}
 use Rattle.std.specs.Fmt.{signed_decimal}
@@ -16,6 +16,7 @@ use Rattle.dsa_scenario.specs.declared.{fields.Form.{Form}, actions.StepKind.{St
 use Rattle.dsa_scenario.specs.Actions.{kinds, kind_text, names_text}
 use Rattle.dsa_check.specs.declared.fields.{Key.{Key}, Found.{Found}}
 use Rattle.dsa_check.specs.declared.finding.{Finding.{Finding}, Reason.{Reason}}
+use Rattle.dsa_check.specs.declared.{places.Spot.{Spot}, remarks.Remark.{Remark}}
 use Rattle.dsa_check.specs.declared.syntax.Syntax.{Syntax, TheVariants.{TooDeep, CommaBefore, Comment, Unwanted}}
 use Rattle.dsa_check.specs.declared.syntax.Piece.{Piece, TheVariants.{End, LineBreak, Tab, Control, Character}}
 use Rattle.dsa_check.specs.declared.syntax.Piece.TheVariants.{ByteOrderMark, Told, Text, Number, Word}
@@ -186,41 +187,38 @@ fault_part_text BadCaps kind = codes "caps: "
 fault_part_text BadCapacity kind = codes "capacity: "
 fault_part_text _ kind = []
 
-abbrev pub place_text : Finding → List ℕ
-place_text finding =
+-- where the finding is, where no place of its own is known of a reason
+abbrev pub own_place_text : Finding → List ℕ
+own_place_text finding =
     known_number_text (codes "line ") finding.place.line (codes ", ")
     ++ known_number_text (codes "column ") finding.place.column (codes ": ")
-    ++ fault_part_text finding.fault finding.place.kind
+
+abbrev pub after_place : ScenarioFault → List ℕ
+after_place NotJson = codes ": "
+after_place _ = codes ", "
+
+abbrev pub spot_text : Finding → Option Spot → List ℕ
+spot_text finding (Some spot) =
+    codes "line " ++ (decimal spot.line ++ (codes ", column " ++ decimal spot.column)) ++ after_place finding.fault
+spot_text finding None = own_place_text finding
 
 -- ---- the lines (profile)
 
-abbrev pub line_of_finding : Finding → Reason → List ℕ
-line_of_finding finding reason = place_text finding ++ reason_text reason ++ codes "\n"
+abbrev pub warning_mark : Bool → List ℕ
+warning_mark true = codes "warning: "
+warning_mark false = []
 
--- the line of a fault of which nothing finer is known
-abbrev pub bare_line : Finding → List ℕ
-bare_line finding = place_text finding ++ codes "not understood\n"
+-- of a fault of which nothing finer is known that is told
+abbrev pub known_text : Option Reason → List ℕ
+known_text (Some reason) = reason_text reason
+known_text None = codes "not understood"
 
-abbrev pub lines_of_finding : Finding → List Reason → List ℕ
-lines_of_finding finding [] = bare_line finding
-lines_of_finding finding (r ∷ rs) = flat_map (line_of_finding finding) (r ∷ rs)
+-- what a remark says: whether it is a warning, where it is, and what is wrong or odd there
+abbrev pub said_text : Bool → Finding → Option Reason → Option Spot → List ℕ
+said_text is_warning finding reason spot =
+    warning_mark is_warning ++ spot_text finding spot ++ fault_part_text finding.fault finding.place.kind
+    ++ known_text reason ++ codes "\n"
 
-abbrev pub finding_text : Finding → List ℕ
-finding_text finding = lines_of_finding finding finding.reasons.items
-
-abbrev pub report_text : List Finding → List ℕ
-report_text findings = flat_map finding_text findings
-
--- the line behind a mark
-abbrev pub marked_line : List ℕ → Finding → Reason → List ℕ
-marked_line mark finding reason = mark ++ line_of_finding finding reason
-
--- the line of a warning
-abbrev pub warning_line : Finding → Reason → List ℕ
-warning_line finding reason = marked_line (codes "warning: ") finding reason
-
-abbrev pub warning_text : Finding → List ℕ
-warning_text finding = flat_map (warning_line finding) finding.reasons.items
-
-abbrev pub warnings_text : List Finding → List ℕ
-warnings_text findings = flat_map warning_text findings
+abbrev pub remark_text : Remark → List ℕ
+remark_text remark =
+    said_text remark.is_warning remark.finding.now (option_map (λ r. r.now) remark.reason) remark.spot

@@ -9,8 +9,8 @@ use Rattle.std.specs.declared.{alloc.Global.{Global}, vec.Vec.{Vec}}
 use Rattle.dsa_scenario.specs.declared.faults.ScenarioFault.{ScenarioFault}
 use Rattle.dsa_scenario.specs.declared.faults.ScenarioFault.TheVariants.{BadCapacity}
 use Rattle.dsa_scenario.specs.declared.fields.Form.{Form}
-use Rattle.dsa_check.specs.declared.checking.Check.{Check}
-use Rattle.dsa_check.specs.declared.syntax.Wanted.{Wanted}
+use Rattle.dsa_check.specs.declared.checking.{Check.{Check}, CheckForm.TheVariants.{Lines}}
+use Rattle.dsa_check.specs.declared.{places.Spot.{Spot}, syntax.Wanted.{Wanted}}
 use Rattle.dsa_check.specs.declared.syntax.Wanted.TheVariants as wanted
 use Rattle.dsa_check.specs.declared.{fields.Key.{Key}, finding.{Finding.{Finding}, Reason.{Reason}}}
 use Rattle.dsa_scenario.specs.{Fields.{Row}, Actions.{rows_of_kind, kind_of}}
@@ -20,10 +20,10 @@ use Rattle.dsa_check.specs.{Reasons.{IsReasonOf, is_unfit, near_kind}, Warnings.
 
 -- a check in which warnings count as no faults, and one in which they do
 abbrev pub plain_check : Check
-plain_check = record { is_strict = false }
+plain_check = record { is_strict = false; form = Lines }
 
 abbrev pub strict_check : Check
-strict_check = record { is_strict = true }
+strict_check = record { is_strict = true; form = Lines }
 
 abbrev pub right_document : Fields
 right_document =
@@ -113,6 +113,17 @@ written_twice =
     (codes "caps", written_object ((codes "slots", json.null) ∷ (codes "slots", json.null) ∷ [])) ∷
     (codes "steps", json.array (json.item once (json.item twice json.no_items))) ∷
     (codes "capacity", json.null) ∷ [])
+
+-- a place in a text
+abbrev pub third_line : Spot
+third_line = record { at = 40; line = 3; column = 16 }
+
+-- a text of an object that has a key twice, and the object
+abbrev pub text_of_two : List ℕ
+text_of_two = codes "{\"a\":1,\"a\": 2}"
+
+abbrev pub last_of_two : Data
+last_of_two = object_of ((codes "a", whole 2) ∷ [])
 
 -- what a row unfolds to compute what is near to a name
 unfoldable pub near_on_literals : ⊤

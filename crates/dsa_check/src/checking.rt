@@ -6,15 +6,28 @@ ghost use Rattle.dsa_check.specs.Check.{IsCheckReportOf, first_of, faults_warned
 
 use crate::finding::{Finding, Judgement};
 use crate::judge::judge_document;
+use crate::remarks::remarks_of;
 use crate::report::report_lines;
 use dsa_scenario::{Render, Rendered, Rendering, ScenarioFault};
 use std::alloc::Global;
 
-/// All faults of a document and all warnings, as lines, and the first fault.
+/// How the remarks of a check are written.
+#[derive(Clone, Copy, Debug, PartialEq, Eq)]
+pub enum CheckForm {
+    /// A line each.
+    Lines,
+    /// A JSON object each, one a line.
+    Json,
+    /// A line each, and below it the source line that it points to, with a mark.
+    Source { is_colored: bool },
+}
+
+/// All faults of a document and all warnings, in one form, and the first fault.
 #[derive(Clone, Copy, Debug, PartialEq, Eq)]
 pub struct Check {
     /// Whether a warning counts as a fault of its part.
     pub is_strict: bool,
+    pub form: CheckForm,
 }
 
 fn first_fault(findings: &[Finding]) -> Option<ScenarioFault>
@@ -55,7 +68,8 @@ impl Render for Check {
 
     fn render(&self, alloc: Global, bytes: &[u8]) -> Rendered {
         let Judgement { faults, warnings } = judge_document(alloc, bytes)?;
-        let text = report_lines(alloc, faults.as_slice(), warnings.as_slice())?;
+        let remarks = remarks_of(alloc, bytes, faults.as_slice(), warnings.as_slice())?;
+        let text = report_lines(alloc, bytes, self.form, remarks.as_slice())?;
         let fault = fault_told(self.is_strict, faults.as_slice(), warnings.as_slice());
         Ok(Rendering {
             text,

@@ -1,7 +1,8 @@
 //! What is told of a document.
 
-ghost use Rattle.std.specs.Prelude.{◌≡◌, None};
+ghost use Rattle.std.specs.Prelude.{◌≡◌, None, option_map};
 ghost use Rattle.dsa_check.specs.Findings.{IsNowhere};
+ghost use Rattle.dsa_check.specs.Remarks.{aim_of, is_of_caps, name_of};
 
 use crate::fields::{Found, Key};
 use crate::syntax::Syntax;
@@ -99,6 +100,65 @@ pub enum Reason {
     NotUtf8,
     /// The text is no JSON.
     Syntax(Syntax),
+}
+
+/// What a reason points to.
+#[derive(Clone, Copy, Debug, PartialEq, Eq)]
+pub enum Aim {
+    /// The value that is told of.
+    Whole,
+    /// The value at a key of it.
+    Value,
+    /// A key of it.
+    Key,
+}
+
+impl Reason {
+    /// What it points to.
+    pub fn aim(&self) -> Aim
+        ensures { result ≡ aim_of self.now }
+    {
+        match self {
+            Reason::Missing { .. }
+            | Reason::NoObject { .. }
+            | Reason::NotUtf8
+            | Reason::Syntax(_) => Aim::Whole,
+            Reason::Misspelled { .. } | Reason::Stray { .. } | Reason::Twice { .. } => Aim::Key,
+            _ => Aim::Value,
+        }
+    }
+
+    /// The key that it is of, where that is told.
+    pub fn name(&self) -> Option<&str>
+        ensures { option_map (λ name. name.now) result ≡ name_of self.now }
+    {
+        match self {
+            Reason::Missing { key }
+            | Reason::Unfit { key, .. }
+            | Reason::OddDigits { key, .. }
+            | Reason::ManyDigits { key, .. }
+            | Reason::NoDigit { key, .. } => Some(key.name),
+            Reason::Misspelled { found, .. } => Some(found.as_str()),
+            Reason::Stray { found, .. } | Reason::Twice { found } => found.as_deref(),
+            Reason::UnknownKind { .. } => Some("do"),
+            Reason::NoObject { .. } | Reason::NotUtf8 | Reason::Syntax(_) => None,
+        }
+    }
+
+    /// Whether its key is one of the caps of a document.
+    pub fn is_of_caps(&self) -> bool
+        ensures { result ≡ is_of_caps self.now }
+    {
+        match self {
+            Reason::Missing { key }
+            | Reason::Misspelled { key, .. }
+            | Reason::Unfit { key, .. }
+            | Reason::OddDigits { key, .. }
+            | Reason::ManyDigits { key, .. }
+            | Reason::NoDigit { key, .. } => key.in_caps,
+            _ => false,
+        }
+    }
 }
 
 /// A finding of the whole document or of another part without a place.

@@ -19,8 +19,8 @@ pub const START: Spot = Spot {
 };
 
 impl Spot {
-    // The place one byte on.
-    fn next(self, bytes: &[u8]) -> Spot
+    /// The place one byte on.
+    pub fn next(self, bytes: &[u8]) -> Spot
         requires spot { IsSpot bytes.now self }
         requires inside { self.at < length bytes.now }
         ensures spot { IsSpot bytes.now result }

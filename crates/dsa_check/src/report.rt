@@ -1,17 +1,23 @@
 //! The lines that are told of the faults of a document.
 
-ghost use Rattle.std.specs.Prelude.{◌≡◌, ◌++◌, Some, IfOk, codes, decimal, string_bytes, flat_map, option_map};
+ghost use Rattle.std.specs.Prelude.{◌≡◌, ◌++◌, Some, IfOk, codes, decimal, string_bytes, option_map};
 ghost use Rattle.dsa_event_text.specs.Added.{Adds};
 ghost use Rattle.dsa_check.specs.Lines.{digits_text, key_text, whole_range_text, form_text};
 ghost use Rattle.dsa_check.specs.Lines.{found_text, bound_text, wanted_of, piece_text};
 ghost use Rattle.dsa_check.specs.Lines.{begun_text, closing_text, wanted_text, syntax_text, near_kind_text};
 ghost use Rattle.dsa_check.specs.Lines.{no_kind_text, stray_text, twice_text, reason_text};
-ghost use Rattle.dsa_check.specs.Lines.{known_number_text, step_text, fault_part_text, place_text};
-ghost use Rattle.dsa_check.specs.Lines.{line_of_finding, bare_line, marked_line, finding_text};
-ghost use Rattle.dsa_check.specs.Lines.{report_text, warnings_text};
+ghost use Rattle.dsa_check.specs.Lines.{known_number_text, step_text, fault_part_text, own_place_text};
+ghost use Rattle.dsa_check.specs.Lines.{after_place, spot_text, warning_mark, known_text};
+ghost use Rattle.dsa_check.specs.Lines.{remark_text};
+ghost use Rattle.dsa_check.specs.{Check.{text_in, report_text}, Sources.{source_text}};
 
+use crate::checking::CheckForm;
 use crate::fields::{Found, Key};
 use crate::finding::{Finding, Reason};
+use crate::objects::add_object;
+use crate::places::Spot;
+use crate::remarks::Remark;
+use crate::sources::add_source;
 use crate::syntax::{Piece, Syntax, Wanted};
 use dsa_event_text::{Added, add_count, truth_text};
 use dsa_scenario::{Form, KIND_NAMES, ScenarioFault, StepKind};
@@ -275,7 +281,8 @@ fn add_twice(text: &mut String, key: &Option<String>) -> Added
     }
 }
 
-fn add_reason(text: &mut String, reason: &Reason) -> Added
+/// Adds the text of a reason.
+pub fn add_reason(text: &mut String, reason: &Reason) -> Added
     ensures { Adds result text.old text.new (reason_text reason.now) }
 {
     match reason {
@@ -337,90 +344,120 @@ fn add_part(text: &mut String, finding: &Finding) -> Added
     }
 }
 
-fn add_place(text: &mut String, finding: &Finding) -> Added
-    ensures { Adds result text.old text.new (place_text finding.now) }
+// Where the finding is, where no place of its own is known of a reason.
+fn add_line(text: &mut String, finding: &Finding) -> Added
+    ensures { Adds result text.old text.new (own_place_text finding.now) }
 {
     add_number(text, "line ", finding.place.line, ", ")?;
-    add_number(text, "column ", finding.place.column, ": ")?;
-    add_part(text, finding)
+    add_number(text, "column ", finding.place.column, ": ")
 }
 
-fn add_line(text: &mut String, finding: &Finding, reason: &Reason) -> Added
-    ensures { Adds result text.old text.new (line_of_finding finding.now reason.now) }
+// What comes between a place and a part.
+fn after_place(fault: ScenarioFault) -> &'static str
+    ensures { result.now ≡ after_place fault }
 {
-    add_place(text, finding)?;
-    add_reason(text, reason)?;
+    match fault {
+        ScenarioFault::NotJson => ": ",
+        _ => ", ",
+    }
+}
+
+fn add_spot(text: &mut String, finding: &Finding, spot: Option<Spot>) -> Added
+    ensures { Adds result text.old text.new (spot_text finding.now spot) }
+{
+    match spot {
+        Some(spot) => {
+            write!(text, "line {}, column {}", spot.line, spot.column)?;
+            text.push_str(after_place(finding.fault))
+        }
+        None => add_line(text, finding),
+    }
+}
+
+fn add_mark(text: &mut String, is_warning: bool) -> Added
+    ensures { Adds result text.old text.new (warning_mark is_warning) }
+{
+    if is_warning {
+        text.push_str("warning: ")
+    } else {
+        Ok(())
+    }
+}
+
+/// Adds a reason, or that none is known.
+pub fn add_known(text: &mut String, reason: Option<&Reason>) -> Added
+    ensures { Adds result text.old text.new (known_text (option_map (λ r. r.now) reason.entry)) }
+{
+    match reason {
+        Some(reason) => add_reason(text, reason),
+        None => text.push_str("not understood"),
+    }
+}
+
+// The line of a remark.
+fn add_remark(text: &mut String, remark: &Remark<'_>) -> Added
+    ensures { Adds result text.old text.new (remark_text remark.now) }
+{
+    add_mark(text, remark.is_warning)?;
+    add_spot(text, remark.finding, remark.spot)?;
+    add_part(text, remark.finding)?;
+    add_known(text, remark.reason)?;
     text.push_str("\n")
 }
 
-// A finding without a reason.
-fn add_bare(text: &mut String, finding: &Finding) -> Added
-    ensures { Adds result text.old text.new (bare_line finding.now) }
-{
-    add_place(text, finding)?;
-    text.push_str("not understood\n")
-}
-
-// A line that begins with this mark.
-fn add_marked(text: &mut String, mark: &str, finding: &Finding, reason: &Reason) -> Added
-    ensures { Adds result text.old text.new (marked_line mark.now finding.now reason.now) }
-{
-    text.push_str(mark)?;
-    add_line(text, finding, reason)
-}
-
-// Such a line for each reason.
-fn add_lines(text: &mut String, mark: &str, finding: &Finding) -> Added
+// A line, and what it points to.
+fn add_pointed(text: &mut String, is_colored: bool, bytes: &[u8], remark: &Remark<'_>) -> Added
     ensures { Adds result text.old text.new
-        (flat_map (marked_line mark.now finding.now) finding.now.reasons.items) }
+        (remark_text remark.now ++ source_text is_colored bytes.now remark.now) }
 {
-    for reason in &finding.reasons {
-        add_marked(text, mark, finding, reason)?;
+    add_remark(text, remark)?;
+    add_source(text, is_colored, bytes, remark)
+}
+
+// A remark of these bytes in this form.
+fn add_form_of(
+    alloc: Global,
+    text: &mut String,
+    bytes: &[u8],
+    form: CheckForm,
+    remark: &Remark<'_>,
+) -> Added
+    ensures { Adds result text.old text.new (text_in form bytes.now remark.now) }
+{
+    match form {
+        CheckForm::Lines => add_remark(text, remark),
+        CheckForm::Json => add_object(alloc, text, remark),
+        CheckForm::Source { is_colored } => add_pointed(text, is_colored, bytes, remark),
+    }
+}
+
+// These remarks in this form.
+fn add_remarks(
+    alloc: Global,
+    text: &mut String,
+    bytes: &[u8],
+    form: CheckForm,
+    remarks: &[Remark<'_>],
+) -> Added
+    ensures { Adds result text.old text.new (report_text form bytes.now remarks.now) }
+{
+    for remark in remarks {
+        add_form_of(alloc, text, bytes, form, remark)?;
     }
     Ok(())
 }
 
-fn add_finding(text: &mut String, finding: &Finding) -> Added
-    ensures { Adds result text.old text.new (finding_text finding.now) }
-{
-    if finding.reasons.is_empty() {
-        add_bare(text, finding)
-    } else {
-        add_lines(text, "", finding)
-    }
-}
-
-// The lines of these findings: one for each reason of each.
-fn add_findings(text: &mut String, findings: &[Finding]) -> Added
-    ensures { Adds result text.old text.new (report_text findings.now) }
-{
-    for finding in findings {
-        add_finding(text, finding)?;
-    }
-    Ok(())
-}
-
-// The lines of these warnings: one for each reason of each.
-fn add_warnings(text: &mut String, warnings: &[Finding]) -> Added
-    ensures { Adds result text.old text.new (warnings_text warnings.now) }
-{
-    for warning in warnings {
-        add_lines(text, "warning: ", warning)?;
-    }
-    Ok(())
-}
-
-/// The lines of these faults, and after them those of these warnings.
+/// The text of these remarks of these bytes in this form.
 pub fn report_lines(
     alloc: Global,
-    faults: &[Finding],
-    warnings: &[Finding],
+    bytes: &[u8],
+    form: CheckForm,
+    remarks: &[Remark<'_>],
 ) -> Result<String, AllocError>
     ensures { IfOk result
-        (λ text. string_bytes text ≡ report_text faults.now ++ warnings_text warnings.now) }
+        (λ text. string_bytes text ≡ report_text form bytes.now remarks.now) }
 {
     let mut text = String::new(alloc);
-    add_findings(&mut text, faults)?;
-    add_warnings(&mut text, warnings)?;
+    add_remarks(alloc, &mut text, bytes, form, remarks)?;
     Ok(text)
 }

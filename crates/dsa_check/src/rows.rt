@@ -36,7 +36,7 @@ ghost use Rattle.dsa_check.specs.Judgement.{AreFaultsOf, IsRight};
 ghost use Rattle.dsa_check.specs.Check.{IsCheckReportOf};
 ghost use Rattle.dsa_check.specs.Lines.{key_text, form_text, found_text, wanted_of, piece_text};
 ghost use Rattle.dsa_check.specs.Lines.{wanted_text, syntax_text, no_kind_text, reason_text};
-ghost use Rattle.dsa_check.specs.Lines.{fault_part_text, place_text, line_of_finding, bare_line};
+ghost use Rattle.dsa_check.specs.Lines.{fault_part_text, own_place_text, spot_text, said_text};
 ghost use Rattle.dsa_check.specs.Places.{line_after, column_after, IsSpot, BeginJson, IsShallow};
 ghost use Rattle.dsa_check.specs.Places.{AreTextOf, BeginsOnLine};
 ghost use Rattle.dsa_check.specs.Reasons.{is_asked, is_between, is_of_form, is_plain, has_caps};
@@ -365,15 +365,19 @@ pub fn texts_of_findings()
         ∷ codes "capacity: " ∷ [] ∷ [] }
     ensures no_kind { fault_part_text (BadStep 3) None ≡ codes "step 3: " }
     ensures place { (reasons : Vec Reason Global)
-        → place_text (found_at (Some 2) (Some 15) reasons)
-        ≡ codes "line 2, column 15: capacity: " }
+        → own_place_text (found_at (Some 2) (Some 15) reasons) ≡ codes "line 2, column 15: " }
     ensures line { (reasons : Vec Reason Global)
-        → place_text (found_at (Some 2) None reasons) ≡ codes "line 2, capacity: " }
+        → spot_text (found_at (Some 2) None reasons) None ≡ codes "line 2, " }
+    ensures spot { (reasons : Vec Reason Global)
+        → spot_text (found_at (Some 2) None reasons)
+        (Some (record { at = 40; line = 3; column = 15 }))
+        ≡ codes "line 3, column 15, " }
     ensures told { (reasons : Vec Reason Global)
-        → line_of_finding (found_at None None reasons) NotUtf8
+        → said_text false (found_at None None reasons) (Some NotUtf8) None
         ≡ codes "capacity: the bytes are no UTF-8\n" }
     ensures bare { (reasons : Vec Reason Global)
-        → bare_line (found_at None None reasons) ≡ codes "capacity: not understood\n" }
+        → said_text false (found_at None None reasons) None None
+        ≡ codes "capacity: not understood\n" }
 {}
 
 /// A place in a text, with its line and its column.

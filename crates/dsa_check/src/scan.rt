@@ -15,11 +15,18 @@ pub struct Flaw {
     pub wanted: Wanted,
 }
 
-/// Where an item of the steps begins, and where it has ended.
+/// Where a value or a key begins, and where it has ended.
 #[derive(Clone, Copy)]
 pub struct Extent {
     pub begin: usize,
     pub end: usize,
+}
+
+/// Where a member of an object is.
+#[derive(Clone, Copy)]
+pub struct Member {
+    pub key: Extent,
+    pub value: Extent,
 }
 
 // An array or an object that has not ended.
@@ -104,6 +111,8 @@ pub struct Scan {
     pub flaw: Option<Flaw>,
     /// The items of the steps. Where the key `steps` is written with an escape they are not found.
     pub steps: Vec<Extent>,
+    /// The members of the object that the whole text is.
+    pub members: Vec<Member>,
     mode: Mode,
     open: Vec<Opening>,
     // Where the last text, word or number begins.
@@ -123,6 +132,7 @@ impl Scan {
         Scan {
             flaw: None,
             steps: Vec::new(alloc),
+            members: Vec::new(alloc),
             mode: Mode::Between(Wanted::Document),
             open: Vec::new(alloc),
             start: 0,
@@ -153,8 +163,20 @@ impl Scan {
         }
     }
 
+    // The last member of the object that the whole text is, where this is inside no other.
+    fn last_member(&mut self) -> Option<&mut Member> {
+        if self.open.len() == 1 {
+            self.members.last_mut()
+        } else {
+            None
+        }
+    }
+
     // A value has ended before this place.
     fn end_value(&mut self, end: usize) {
+        if let Some(member) = self.last_member() {
+            member.value.end = end;
+        }
         if self.is_in_steps()
             && let Some(step) = self.steps.last_mut()
         {
@@ -202,6 +224,9 @@ impl Scan {
         if self.is_in_steps() {
             self.steps.push(Extent { begin: at, end: at })?;
         }
+        if let Some(member) = self.last_member() {
+            member.value.begin = at;
+        }
         match byte {
             b'[' => self.open_at(at, true)?,
             b'{' => self.open_at(at, false)?,
@@ -220,6 +245,19 @@ impl Scan {
         self.begin(at, Mode::Text);
     }
 
+    // The first byte of a key.
+    fn begin_key(&mut self, at: usize) -> Result<(), AllocError> {
+        if self.open.len() == 1 {
+            let here = Extent { begin: at, end: at };
+            self.members.push(Member {
+                key: here,
+                value: here,
+            })?;
+        }
+        self.begin_text(at, true);
+        Ok(())
+    }
+
     // A byte that stands in no text, word or number.
     fn plain_byte(&mut self, at: usize, byte: u8, wanted: Wanted) -> Result<(), AllocError> {
         match (wanted, byte) {
@@ -229,7 +267,7 @@ impl Scan {
             (Wanted::More { in_array: false }, b',') => self.mode = Mode::Between(Wanted::Key),
             (Wanted::More { in_array: true } | Wanted::FirstItem, b']') => self.close(at),
             (Wanted::More { in_array: false } | Wanted::FirstKey, b'}') => self.close(at),
-            (Wanted::Key | Wanted::FirstKey, b'"') => self.begin_text(at, true),
+            (Wanted::Key | Wanted::FirstKey, b'"') => self.begin_key(at)?,
             (Wanted::Document | Wanted::Value | Wanted::Item | Wanted::FirstItem, _) =>
                 self.value_byte(at, byte, wanted)?,
             _ => self.refuse(at, wanted),
@@ -296,6 +334,9 @@ impl Scan {
     // The last byte of a text, which follows these.
     fn end_text(&mut self, at: usize, begun: &[u8]) {
         if self.is_key {
+            if let Some(member) = self.last_member() {
+                member.key.end = at.saturating_add(1);
+            }
             self.is_steps = self.open.len() == 1 && begun == b"\"steps".as_slice();
             self.mode = Mode::Between(Wanted::Colon);
         } else {

@@ -97,8 +97,8 @@ fn is_text_of(alloc: Global, bytes: &[u8], value: &Value) -> Result<bool, AllocE
     }
 }
 
-// Whether the bytes between these places are a text of the value.
-fn is_text_at(
+/// Whether the bytes between these places are a text of the value.
+pub fn is_text_at(
     alloc: Global,
     bytes: &[u8],
     at: usize,

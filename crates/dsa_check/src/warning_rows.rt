@@ -14,7 +14,7 @@ ghost use Rattle.dsa_check.specs.declared.finding.Reason.TheVariants.{NotUtf8};
 ghost use Rattle.dsa_check.specs.Check.{first_of, faults_warned};
 ghost use Rattle.dsa_check.specs.Findings.{IsNowhere};
 ghost use Rattle.json.specs.Json as json;
-ghost use Rattle.dsa_check.specs.Lines.{stray_text, twice_text, warning_line};
+ghost use Rattle.dsa_check.specs.Lines.{stray_text, twice_text, said_text};
 ghost use Rattle.dsa_check.specs.Repeats.{keys_written, how_often, keys_again};
 ghost use Rattle.dsa_check.specs.Tables.{document_rows};
 ghost use Rattle.dsa_check.specs.Warnings.{names_of, remark_names, step_names, is_named, list_of};
@@ -179,7 +179,7 @@ pub fn texts_of_warnings()
     ensures alone { stray_text (Some (codes "slot")) None ≡ codes "\"slot\" is no key here" }
     ensures untold { stray_text None None ≡ codes "a key that is long or not plain is no key here" }
     ensures line { (reasons : Vec Reason Global)
-        → warning_line (found_at (Some 2) None reasons) NotUtf8
+        → said_text true (found_at (Some 2) None reasons) (Some NotUtf8) None
         ≡ codes "warning: line 2, capacity: the bytes are no UTF-8\n" }
     ensures each { warned_in BadCaps (Some Poll) (codes "a" ∷ codes "b" ∷ [])
         ≡ (BadCaps, Some Poll, codes "a") ∷ (BadCaps, Some Poll, codes "b") ∷ [] }

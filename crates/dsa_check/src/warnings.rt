@@ -31,13 +31,14 @@ use serde_json::Value;
 use std::alloc::{AllocError, Global};
 use std::collections::BTreeSet;
 
-// What a step says that another device was seen to answer.
-const ANSWER: Field = Field {
+/// The key with the answer that another device was seen to give to a step.
+pub const ANSWER: Field = Field {
     name: "answer",
     form: Form::Text,
 };
 
-const FLAG: Field = Field {
+/// The key with the zero flag that was seen after it.
+pub const FLAG: Field = Field {
     name: "zf",
     form: Form::Truth,
 };
@@ -48,8 +49,8 @@ const REMARK_NAMES: [&str; 1] = ["note"];
 // The keys of a step beside those of its kind.
 const STEP_NAMES: [&str; 4] = ["do", "answer", "zf", "note"];
 
-// Adds what stands at the key of a step, where it is of another form.
-fn add_odd(step: &Value, field: Field, reasons: &mut Vec<Reason>) -> Result<(), AllocError>
+/// Adds what stands at the key of a step, where it is of another form.
+pub fn add_odd(step: &Value, field: Field, reasons: &mut Vec<Reason>) -> Result<(), AllocError>
     ensures { OnOk result
         (Tells reasons.old.items reasons.new.items
         (odd_at (view step.now) (row_of_field field))) }

@@ -1,7 +1,6 @@
 //! Worked choices: what the definitions say of chosen texts, records and runs, by computation.
 
 ghost use Rattle.std.specs.Prelude.{◌≡◌, ◌++◌, [], ◌∷◌, Some, None, true, false, codes, map};
-ghost use Rattle.dsa_regs.specs.declared.Fault.TheVariants.{BadCommand};
 ghost use Rattle.dsa_book.specs.declared.answer.Cause.TheVariants.{AtLimit};
 ghost use Rattle.dsa_book.specs.declared.answer.DispatchAnswer.TheVariants as dispatch;
 ghost use Rattle.dsa_book.specs.declared.answer.FetchAnswer.TheVariants.{Fetched};
@@ -13,6 +12,7 @@ ghost use Rattle.dsa_book.specs.declared.answer.StartAnswer.TheVariants.{Started
 ghost use Rattle.dsa_book.specs.declared.answer.SubmitAnswer.TheVariants.{Accepted, Retry};
 ghost use Rattle.dsa_book.specs.declared.event.Event.TheVariants as event;
 ghost use Rattle.dsa_book.specs.declared.fate.Fate.TheVariants.{Aborted};
+ghost use Rattle.dsa_scenario.specs.Worked.{no_command};
 ghost use Rattle.dsa_scenario.specs.declared.run.Record.TheVariants.{Refused};
 ghost use Rattle.dsa_scenario.specs.Worked.{fate, record_of_a_fetch, record_ticket, stepped};
 ghost use Rattle.dsa_chosen.specs.Words.{answer_words, first_word, is_answer_word, is_answered};
@@ -48,10 +48,10 @@ pub fn of_answers()
         ∷ stepped (event.Dispatch 0) (reply.Dispatch dispatch.Idle)
         ∷ stepped (event.Dispatch 0) (reply.Dispatch dispatch.Full)
         ∷ submitted_by 2 (Accepted (record_ticket 1 0))
-        ∷ Refused BadCommand
+        ∷ Refused no_command
         ∷ [])
         ≡ true ∷ true ∷ false ∷ false ∷ false ∷ [] }
-    ensures refused { is_answered (codes "gone,refused") (Refused BadCommand) ≡ true }
+    ensures refused { is_answered (codes "gone,refused") (Refused no_command) ≡ true }
     ensures whole_words { map (λ words. is_answered words (submitted_by 2 (Retry AtLimit)))
         (codes "retry" ∷ codes "ret" ∷ codes "retry-later" ∷ codes "at-limit" ∷ [])
         ≡ true ∷ false ∷ false ∷ false ∷ [] }
@@ -84,7 +84,7 @@ pub fn of_names()
     ensures none_aborted { map (λ name. is_about name (aborted_so_many 0) fates_of_three)
         (4 ∷ 7 ∷ 5 ∷ [])
         ≡ false ∷ false ∷ false ∷ [] }
-    ensures word { is_about 7 (Refused BadCommand) fates_of_three ≡ false }
+    ensures word { is_about 7 (Refused no_command) fates_of_three ≡ false }
     ensures fates { map (λ name. selected_fates name fates_of_three)
         (Some 7 ∷ Some 6 ∷ None ∷ [])
         ≡ (fate 7 (Aborted 4) ∷ []) ∷ [] ∷ [] ∷ [] }
@@ -96,7 +96,7 @@ pub fn of_clients()
     ensures client { map (is_by 2)
         (submitted_by 2 (Retry AtLimit) ∷ submitted_by 3 (Retry AtLimit)
         ∷ stepped (event.Dispatch 2) (reply.Dispatch dispatch.Idle)
-        ∷ stepped event.Poll (reply.Poll Nothing) ∷ Refused BadCommand ∷ [])
+        ∷ stepped event.Poll (reply.Poll Nothing) ∷ Refused no_command ∷ [])
         ≡ true ∷ false ∷ false ∷ false ∷ false ∷ [] }
     ensures all { map (λ selection. is_selected selection (submitted_by 2 (Retry AtLimit)) [])
         (all_lines ∷ of_this_client 2 ∷ of_this_client 3 ∷ of_name 7

@@ -1,7 +1,56 @@
 -- What options choose that have no value.
-use Rattle.std.proofs.Common.{◌≡◌, Bool, true, false, List, refl}
-use Rattle.clap.specs.Walk.{Row, Text}
-use Rattle.dsa_cli.specs.CommandLine.{IsChosenBy}
+use Rattle.std.proofs.Common.{◌≡◌, ◌∙◌, ℕ, Bool, true, false, List, [], Option, Some, unwrap_or, codes, length}
+use Rattle.std.proofs.Common.{refl, sym, ap, arith}
+use Rattle.clap.specs.Walk.{Row, Text, one_of}
+use Rattle.dsa_cli.specs.CommandLine.{IsChosenBy, IsGivenElse}
+
+-- how long the text of an option is
+abbrev text_length : Option Text → ℕ
+text_length o = length (unwrap_or o [])
+
+-- an option that is given chooses one of two, and one that is not the other
+pub when_given : {A : Type 0} {rows : List Row} {name : Text} {on off : A} → one_of name rows ≡ Some (codes "true")
+    → IsChosenBy rows name on off on
+when_given has = record {
+  given = λ again. refl;
+  left_out = λ other. absurd (omega (arith, ap text_length (sym has ∙ other)));
+}
+
+pub when_left_out : {A : Type 0} {rows : List Row} {name : Text} {on off : A} → one_of name rows ≡ Some (codes "false")
+    → IsChosenBy rows name on off off
+when_left_out has = record {
+  given = λ other. absurd (omega (arith, ap text_length (sym has ∙ other)));
+  left_out = λ again. refl;
+}
+
+pub first_given : {A : Type 0} {rows : List Row} {name : Text} {form : A} {IsSo : A → Type 0}
+    → one_of name rows ≡ Some (codes "true") → IsGivenElse rows name form IsSo form
+first_given has = record {
+  given = λ again. refl;
+  left_out = λ out. absurd (omega (arith, ap text_length (sym has ∙ out)));
+}
+
+pub first_left_out : {A : Type 0} {rows : List Row} {name : Text} {form this : A} {IsSo : A → Type 0}
+    → one_of name rows ≡ Some (codes "false") → IsSo this → IsGivenElse rows name form IsSo this
+first_left_out out so = record {
+  given = λ has. absurd (omega (arith, ap text_length (sym out ∙ has)));
+  left_out = λ again. so;
+}
+
+-- the first of some options that was found is this one, or a later one
+pub first_here : {A : Type 0} {rows : List Row} {name : Text} {found : Bool} {form : A} {IsSo : A → Type 0}
+    → IsChosenBy rows name true false found → found ≡ true → IsGivenElse rows name form IsSo form
+first_here option is = record {
+  given = λ has. refl;
+  left_out = λ out. let none = option.left_out out in absurd cc;
+}
+
+pub first_later : {A : Type 0} {rows : List Row} {name : Text} {found : Bool} {form this : A} {IsSo : A → Type 0}
+    → IsChosenBy rows name true false found → found ≡ false → IsSo this → IsGivenElse rows name form IsSo this
+first_later option is so = record {
+  given = λ has. let some = option.given has in absurd cc;
+  left_out = λ out. so;
+}
 
 -- one of two is chosen where the option was found, and the other where it was not
 pub chosen : {A : Type 0} {rows : List Row} {name : Text} {found : Bool} (on off : A)

@@ -2,9 +2,12 @@ pub mod Accepted
 pub mod Choices
 pub mod DecidedLoads
 pub mod FewNumbers
+pub mod LinesChosen
 pub mod OnTheWay
 pub mod OptionNumbers
+pub mod OptionTexts
 pub mod PlainRuns
+pub mod Printed
 pub mod Pushes
 pub mod ReportCommands
 pub mod ReportNames

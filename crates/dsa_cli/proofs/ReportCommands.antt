@@ -1,15 +1,20 @@
 -- Commands that ask for a report, and words that name none.
 use Rattle.dsa_cli.specs.declared.options.Asked.TheVariants as asked
-use Rattle.std.proofs.Common.{◌≡◌, ◌≤◌, ◌∙◌, ◌⊎◌, inl, inr, ℕ, List, Some, None, codes, option_map}
+use Rattle.dsa_cli.specs.declared.reports.Report.TheVariants as report
+use Rattle.std.proofs.Common.{◌≡◌, ◌<◌, ◌≤◌, ◌∙◌, ◌⊎◌, inl, inr, ℕ, List, Some, None, codes, option_map}
 use Rattle.std.proofs.Common.{get_or, refl}
 use Rattle.std.proofs.Common.{[], Option, unwrap_or, sym, ap, subst, arith}
-use Rattle.std.specs.Str.Parse.{digits_value, without_leading_plus}
+use Rattle.std.specs.{Option.{option_map_or}, Str.Parse.{digits_value, without_leading_plus}}
 use Rattle.clap.specs.Walk.{Row, Text}
-use Rattle.dsa_cli.specs.declared.options.{Asked.{Asked}, Workload.{Workload}}
-use Rattle.dsa_cli.specs.CommandLine.{AreNumbersOf, AsksFor, IsNumberOf, IsReportName, NameNothing}
-use Rattle.dsa_cli.specs.CommandLine.{NameReport}
+use Rattle.dsa_cli.specs.declared.{options.{Asked.{Asked}, Workload.{Workload}}, reports.Report.{Report}}
+use Rattle.dsa_cli.specs.declared.options.WrongValue.{WrongValue, TheVariants.{Answer, Range}}
+use Rattle.dsa_draw.specs.Ranges.{all_steps, range_of_text}
+use Rattle.dsa_cli.specs.CommandLine.{AreNumbersOf, AskWrongValue, AsksBy, AsksFor, IsAskedBy}
+use Rattle.dsa_cli.specs.CommandLine.{IsNumberOf, IsReportName, IsWrongIn, NameNothing}
+use Rattle.dsa_cli.specs.CommandLine.{NameReport, unknown_answer_text, unknown_range_text, wrong_value_text}
 use Rattle.dsa_cli.specs.CommandLine.{NameThreads, SayHighThreshold, SaysNumber, command_in}
 use Rattle.dsa_cli.specs.Threads.{IsAskedInRange}
+use Rattle.dsa_cli.proofs.ReportNames.{same_first}
 
 -- a command is named, or none
 no_name : (words : List Text) (name : Text) → NameNothing words → command_in words ≡ Some name → ⊥
@@ -29,6 +34,8 @@ pub names_nothing : (words : List Text) (asks : Asked) → NameNothing words →
 names_nothing words asked.Scenario nothing is = refl
 names_nothing words (asked.Report report) nothing is =
     absurd (no_name words is.0.0 nothing (ap (option_map (λ (f : Text × List Row). f.0)) is.1.1))
+names_nothing words (asked.WrongValue value) nothing is =
+    absurd (no_name words is.0.0 nothing (ap (option_map (λ (f : Text × List Row). f.0)) is.1.1))
 names_nothing words asked.Serve nothing is = absurd (no_name words (codes "serve") nothing is.1)
 names_nothing words (asked.Threads load) nothing is =
     absurd (no_name words (codes "threads") nothing (ap (option_map (λ (f : Text × List Row). f.0)) is.1.1))
@@ -47,6 +54,90 @@ not_asked words count asks is told none same other (inr nothing) =
 pub named : (words : List Text) (count : ℕ) → ¬ (count ≡ 0) → (count ≡ 0) ⊎ NameNothing words → NameNothing words
 named words count some (inl empty) = absurd (some empty)
 named words count some (inr nothing) = nothing
+
+-- ---- words that name a command that asks for a report
+
+-- the name of a command
+abbrev name_in : Option (Text × List Row) → Text
+name_in found = unwrap_or (option_map (λ (p : Text × List Row). p.0) found) []
+
+-- they ask for what the command asks for
+pub asks_by : (words : List Text) (found : Text × List Row) → NameReport words found → (asks : Asked)
+    → AsksBy found asks → AsksFor words asks
+asks_by words found named (asked.Report report) by = (found, named, by)
+asks_by words found named (asked.WrongValue value) by = (found, named, by)
+asks_by words found named _ by = absurd by
+
+pub in_range : (found : Text × List Row) (asks : Asked) → AsksBy found asks → IsAskedInRange asks
+in_range found (asked.Report report) by = tt
+in_range found (asked.WrongValue value) by = tt
+in_range found _ by = absurd by
+
+-- they ask for no report where a value is wrong
+no_report_of : (found : Text × List Row) (value : WrongValue) (report : Report) → IsWrongIn found value
+    → IsAskedBy found report → ⊥
+no_report_of found (Answer word) (report.Check check) wrong by = omega (arith, same_first (sym wrong.0 ∙ by.0))
+no_report_of found (Answer word) (report.Explain selection run) wrong by =
+    let both : Some word.now ≡ None = sym wrong.1 ∙ by.1.known in
+    cc
+no_report_of found (Answer word) (report.Trace form run) wrong by = omega (arith, same_first (sym wrong.0 ∙ by.0))
+no_report_of found (Answer word) (report.Chrome run) wrong by = omega (arith, same_first (sym wrong.0 ∙ by.0))
+no_report_of found (Answer word) report.Count wrong by = omega (arith, same_first (sym wrong.0 ∙ by))
+no_report_of found (Answer word) (report.Draw drawing run) wrong by = omega (arith, same_first (sym wrong.0 ∙ by.0))
+no_report_of found (Answer word) (report.Conform conformance) wrong by = omega (arith, same_first (sym wrong.0 ∙ by.0))
+no_report_of found (Answer word) report.Expand wrong by =
+    let both : codes "explain" ≡ codes "expand" = sym wrong.0 ∙ by in
+    cc
+no_report_of found (Range text) (report.Check check) wrong by = omega (arith, same_first (sym wrong.0 ∙ by.0))
+no_report_of found (Range text) (report.Explain selection run) wrong by = omega (arith, same_first (sym wrong.0 ∙ by.0))
+no_report_of found (Range text) (report.Trace form run) wrong by = omega (arith, same_first (sym wrong.0 ∙ by.0))
+no_report_of found (Range text) (report.Chrome run) wrong by = omega (arith, same_first (sym wrong.0 ∙ by.0))
+no_report_of found (Range text) report.Count wrong by = omega (arith, same_first (sym wrong.0 ∙ by))
+no_report_of found (Range text) (report.Draw drawing run) wrong by =
+    let none : None ≡ Some drawing.steps =
+    sym (ap (λ o. option_map_or range_of_text o (Some all_steps)) wrong.1 ∙ wrong.2) ∙ by.1 in
+    cc
+no_report_of found (Range text) (report.Conform conformance) wrong by = omega (arith, same_first (sym wrong.0 ∙ by.0))
+no_report_of found (Range text) report.Expand wrong by = omega (arith, same_first (sym wrong.0 ∙ by))
+
+-- what the words name, where a value is wrong
+no_other_name : (found : Text × List Row) (value : WrongValue) (name : Text) → 114 < get_or name 0 0
+    → IsWrongIn found value → name ≡ found.0 → ⊥
+no_other_name found (Answer word) name high wrong same = omega (arith, same_first (same ∙ wrong.0), high)
+no_other_name found (Range text) name high wrong same = omega (arith, same_first (same ∙ wrong.0), high)
+
+-- a command has one wrong value at most
+same_text : (found : Text × List Row) (one other : WrongValue) → IsWrongIn found one → IsWrongIn found other
+    → wrong_value_text one ≡ wrong_value_text other
+same_text found (Answer one) (Answer other) is wrong =
+    ap (λ o. unknown_answer_text (unwrap_or o [])) (sym is.1 ∙ wrong.1)
+same_text found (Range one) (Range other) is wrong =
+    ap (λ o. unknown_range_text (unwrap_or o [])) (sym is.1 ∙ wrong.1)
+same_text found (Answer one) (Range other) is wrong = absurd (omega (arith, same_first (sym is.0 ∙ wrong.0)))
+same_text found (Range one) (Answer other) is wrong = absurd (omega (arith, same_first (sym is.0 ∙ wrong.0)))
+
+-- words that ask with a wrong value ask for nothing else
+pub asks_wrong : (words : List Text) (asks : Asked) (value : WrongValue) → AskWrongValue words value
+    → AsksFor words asks
+    → (given : WrongValue) × (asks ≡ asked.WrongValue given) × (wrong_value_text given ≡ wrong_value_text value)
+asks_wrong words asked.Scenario value wrong is =
+    absurd (is wrong.0.0 (inl wrong.1.2) (ap (option_map (λ (f : Text × List Row). f.0)) wrong.1.1))
+asks_wrong words (asked.Report report) value wrong is =
+    let same = same_found words wrong.0 is.0 wrong.1 is.1 in
+    absurd (no_report_of is.0 value report (subst (λ f. IsWrongIn f value) same wrong.2) is.2)
+asks_wrong words (asked.WrongValue given) value wrong is =
+    let same = same_found words is.0 wrong.0 is.1 wrong.1 in
+    (given, refl, same_text wrong.0 given value (subst (λ f. IsWrongIn f given) same is.2) wrong.2)
+asks_wrong words asked.Serve value wrong is =
+    let name : codes "serve" ≡ wrong.0.0 =
+    ap (λ o. unwrap_or o []) (sym is.1 ∙ ap (option_map (λ (f : Text × List Row). f.0)) wrong.1.1) in
+    absurd (no_other_name wrong.0 value (codes "serve") (omega arith) wrong.2 name)
+asks_wrong words (asked.Threads load) value wrong is =
+    absurd (no_other_name wrong.0 value (codes "threads") (omega arith) wrong.2
+    (ap name_in (sym is.1.1 ∙ wrong.1.1)))
+asks_wrong words (asked.HighThreshold load) value wrong is =
+    absurd (no_other_name wrong.0 value (codes "threads") (omega arith) wrong.2
+    (ap name_in (sym is.0.1.1 ∙ wrong.1.1)))
 
 -- ---- words that name `threads`
 
@@ -71,7 +162,11 @@ no_report name two one named =
                         | inr rest ↦
                             elim rest [
                               | inl draw ↦ omega (arith, ap second draw, two)
-                              | inr conform ↦ omega (arith, ap second conform, two)
+                              | inr rest ↦
+                                  elim rest [
+                                    | inl conform ↦ omega (arith, ap second conform, two)
+                                    | inr expand ↦ omega (arith, ap second expand, two)
+                                  ]
                             ]
                       ]
                 ]
@@ -82,10 +177,7 @@ no_report name two one named =
 command : (words : List Text) (rows : List Row) → NameThreads words rows → command_in words ≡ Some (codes "threads")
 command words rows named = ap (option_map (λ (f : Text × List Row). f.0)) named.1
 
--- the name and the matches of a command
-abbrev name_in : Option (Text × List Row) → Text
-name_in found = unwrap_or (option_map (λ (p : Text × List Row). p.0) found) []
-
+-- the matches of a command
 abbrev rows_in : Option (Text × List Row) → List Row
 rows_in found = unwrap_or (option_map (λ (p : Text × List Row). p.1) found) []
 
@@ -109,6 +201,9 @@ pub asks_high : (words : List Text) (asks : Asked) (rows : List Row) → NameThr
 asks_high words asked.Scenario rows named high is range =
     absurd (is (codes "threads") (inr (inr refl)) (command words rows named))
 asks_high words (asked.Report report) rows named high is range =
+    let name : codes "threads" ≡ is.0.0 = ap name_in (sym named.1 ∙ is.1.1) in
+    absurd (no_report is.0.0 (ap second (sym name)) (ap (λ (text : Text). get_or text 0 0) (sym name)) is.1.2)
+asks_high words (asked.WrongValue value) rows named high is range =
     let name : codes "threads" ≡ is.0.0 = ap name_in (sym named.1 ∙ is.1.1) in
     absurd (no_report is.0.0 (ap second (sym name)) (ap (λ (text : Text). get_or text 0 0) (sym name)) is.1.2)
 asks_high words asked.Serve rows named high is range =

@@ -8,7 +8,7 @@ same_first same = ap (λ (text : List ℕ). get_or text 0 0) same
 -- a word that begins with a letter from `h` to `s` is none of them
 pub no_report : (word : List ℕ) → 103 < get_or word 0 0 → get_or word 0 0 < 116
     → (word ≡ codes "check") ⊎ (word ≡ codes "explain") ⊎ (word ≡ codes "trace") ⊎ (word ≡ codes "count")
-    ⊎ (word ≡ codes "draw") ⊎ (word ≡ codes "conform") → ⊥
+    ⊎ (word ≡ codes "draw") ⊎ (word ≡ codes "conform") ⊎ (word ≡ codes "expand") → ⊥
 no_report word low high named =
     elim named [
       | inl check ↦ omega (arith, same_first check, low)
@@ -24,7 +24,11 @@ no_report word low high named =
                         | inr rest ↦
                             elim rest [
                               | inl draw ↦ omega (arith, same_first draw, low)
-                              | inr conform ↦ omega (arith, same_first conform, low)
+                              | inr rest ↦
+                                  elim rest [
+                                    | inl conform ↦ omega (arith, same_first conform, low)
+                                    | inr expand ↦ omega (arith, same_first expand, low)
+                                  ]
                             ]
                       ]
                 ]

@@ -89,7 +89,8 @@ setup_comes_first load history own admins =
       length-filter p history,
       ap (λ (l : List Step). length l) own,
     )) in
-    sym (take_at (take 4 history) (filter p (drop 4 history)) 4 four) ∙ ap (λ (l : List Step). take 4 l) (sym split ∙ own)
+    sym (take_at (take 4 history) (filter p (drop 4 history)) 4 four)
+    ∙ ap (λ (l : List Step). take 4 l) (sym split ∙ own)
 
 -- ---- the seats
 

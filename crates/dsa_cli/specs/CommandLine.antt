@@ -1,23 +1,28 @@
 -- The words of the command line, by clap's own definitions of what words say.
 use Rattle.dsa_cli.specs.declared.reports.Report.TheVariants as report
 use Rattle.dsa_cli.specs.declared.options.Asked.TheVariants as asked
+use Rattle.dsa_check.specs.declared.checking.CheckForm.TheVariants as check_form
 use Rattle.std.specs.Prelude.{◌≡◌, ◌≢◌, ◌⊎◌, ◌<◌, ◌≤◌, ℕ, pos, true, false, List, [], ◌∷◌, ◌++◌}
-use Rattle.std.specs.Prelude.{length, take, codes, decimal}
-use Rattle.std.specs.Prelude.{Option, Some, None}
-use Rattle.std.specs.Prelude.{option_map}
+use Rattle.std.specs.Prelude.{length, take, fold, codes, decimal}
+use Rattle.std.specs.Prelude.{Option, Some, None, option_and_then, option_map}
+use Rattle.std.specs.{List.{join_by}, Option.{option_map_or}}
 use Rattle.std.specs.Io.KnownBytes.{Consumes, IsAtEnd, Appends}
 use Rattle.std.specs.Str.Parse.{IsNumeral, digits_value, without_leading_plus}
 use Rattle.clap.specs.declared.builder.action.ArgAction.TheVariants.{SetTrue}
 use Rattle.clap.specs.declared.builder.value_parser.ValueParser.TheVariants.{Signed}
 use Rattle.clap.specs.declared.error.kind.ErrorKind.{ErrorKind}
 use Rattle.clap.specs.declared.error.kind.ErrorKind.TheVariants.{DisplayHelp, DisplayVersion}
-use Rattle.clap.specs.{Walk.{Row, Rule, Text, one_of}, Faults.{fault_of}, Kinds.{Kinds, IsAmong}}
-use Rattle.clap.specs.Simple.{App, new_app, new_rule, on_top, subcommand_of, with_rule}
+use Rattle.clap.specs.{Walk.{Row, Rule, Text, first_of, one_of}, Faults.{fault_of}, Kinds.{Kinds, IsAmong}}
+use Rattle.clap.specs.Simple.{App, new_app, new_rule, on_top, subcommand_of}
 use Rattle.clap.specs.Simple.{with_subcommand}
 use Rattle.dsa_shared.specs.declared.settle.Totals.{Totals}
 use Rattle.dsa_scenario.specs.declared.faults.ScenarioFault.{ScenarioFault}
-use Rattle.dsa_trace.specs.declared.form.Trace.{Trace, TheVariants.{Table, Json}}
-use Rattle.dsa_check.specs.declared.checking.Check.{Check}
+use Rattle.dsa_trace.specs.declared.form.Trace.{Trace, TheVariants.{Table, Wide, Json}}
+use Rattle.dsa_check.specs.declared.checking.{Check.{Check}, CheckForm.{CheckForm}}
+use Rattle.dsa_check.specs.declared.checking.CheckForm.TheVariants.{Lines, Source}
+use Rattle.dsa_conform.specs.declared.rendering.Conformance.{Conformance}
+use Rattle.dsa_draw.specs.{declared.range.StepRange.{StepRange}, Ranges.{all_steps, range_of_text}}
+use Rattle.dsa_chosen.specs.{declared.selection.Selection.{Selection}, Words.{answer_words, unknown_word}}
 use Rattle.dsa_serve.specs.Dialogue.{AnswersAll, IsLate, IsStopped}
 use Rattle.dsa_cli.specs.Reports.{IsReported, IsReportCutShort, IsReportBegun}
 use Rattle.dsa_cli.specs.declared.reports.{Report.{Report}, Run.{Run, TheVariants.{Own, Seen}}}
@@ -26,51 +31,56 @@ use Rattle.dsa_cli.specs.declared.options.Workload.{Workload}
 use Rattle.dsa_cli.specs.declared.options.Asked.{Asked}
 use Rattle.dsa_cli.specs.declared.options.Asked.TheVariants.{Scenario, Serve, Threads}
 use Rattle.dsa_cli.specs.declared.options.Asked.TheVariants.{HighThreshold}
+use Rattle.dsa_cli.specs.declared.options.WrongValue.{WrongValue, TheVariants.{Answer, Range}}
 
--- the option `--name`, whose value is a number from `least` to `most`, and `default` where it is not given
-abbrev pub number_rule : Text → ℕ → ℕ → Text → Rule
-number_rule name least most default = record (new_rule name) {
-  long = Some name;
-  value_names = 1;
-  defaults = default ∷ [];
-  parser = Some (Signed (pos least) (pos most));
-}
+-- the option `--name`, which has a value
+abbrev pub text_rule : Text → Rule
+text_rule name = record (new_rule name) { long = Some name; value_names = 1 }
 
--- `threads`, with its options (profile)
-abbrev pub threads_app : App
-threads_app =
-    with_rule (with_rule (with_rule (with_rule (with_rule (with_rule (with_rule (with_rule
-    (new_app (codes "threads"))
-    (number_rule (codes "clients") 1 16 (codes "2")))
-    (number_rule (codes "engines") 1 8 (codes "2")))
-    (number_rule (codes "each") 1 1_000 (codes "100")))
-    (number_rule (codes "turns") 1 40_000 (codes "10000")))
-    (number_rule (codes "size") 1 1_024 (codes "16")))
-    (number_rule (codes "threshold") 1 1_024 (codes "8")))
-    (number_rule (codes "slots") 1 16 (codes "4")))
-    (number_rule (codes "buffers") 4 255 (codes "32"))
+-- the option `--name`, whose value is a number from `least` to `most`
+abbrev pub number_rule : Text → ℕ → ℕ → Rule
+number_rule name least most = record (text_rule name) { parser = Some (Signed (pos least) (pos most)) }
+
+-- the same, whose value is `default` where it is not given
+abbrev pub default_rule : Text → ℕ → ℕ → Text → Rule
+default_rule name least most default = record (number_rule name least most) { defaults = default ∷ [] }
 
 -- the option `--name`, which has no value
 abbrev pub flag_rule : Text → Rule
 flag_rule name = record (new_rule name) { long = Some name; action = Some SetTrue }
 
--- a command that also has the option of the run that was seen (profile)
-abbrev pub with_seen_rule : App → App
-with_seen_rule app = with_rule app (flag_rule (codes "seen"))
+-- the command `name` with these options
+abbrev pub command_app : Text → List Rule → App
+command_app name rules = on_top (λ top. record top { rules = rules }) (new_app name)
 
--- `explain`, `trace` and `draw`, with their options (profile)
+-- `threads`, with its options (profile)
+abbrev pub threads_app : App
+threads_app = command_app (codes "threads") (
+    default_rule (codes "clients") 1 16 (codes "2") ∷ default_rule (codes "engines") 1 8 (codes "2") ∷
+    default_rule (codes "each") 1 1_000 (codes "100") ∷ default_rule (codes "turns") 1 40_000 (codes "10000") ∷
+    default_rule (codes "size") 1 1_024 (codes "16") ∷ default_rule (codes "threshold") 1 1_024 (codes "8") ∷
+    default_rule (codes "slots") 1 16 (codes "4") ∷ default_rule (codes "buffers") 4 255 (codes "32") ∷ [])
+
+-- the commands that ask for a report, with their options (profile)
 abbrev pub explain_app : App
-explain_app = with_seen_rule (new_app (codes "explain"))
+explain_app = command_app (codes "explain") (
+    number_rule (codes "name") 0 4_294_967_295 ∷ number_rule (codes "client") 0 65_535 ∷
+    text_rule (codes "only") ∷ flag_rule (codes "seen") ∷ [])
 
 abbrev pub trace_app : App
-trace_app = with_seen_rule (with_rule (new_app (codes "trace")) (flag_rule (codes "json")))
+trace_app = command_app (codes "trace") (
+    flag_rule (codes "wide") ∷ flag_rule (codes "json") ∷ flag_rule (codes "chrome") ∷ flag_rule (codes "seen") ∷ [])
 
 abbrev pub draw_app : App
-draw_app = with_seen_rule (new_app (codes "draw"))
+draw_app = command_app (codes "draw") (text_rule (codes "steps") ∷ flag_rule (codes "seen") ∷ [])
 
--- `check`, with its option (profile)
+abbrev pub conform_app : App
+conform_app = command_app (codes "conform") (flag_rule (codes "all") ∷ [])
+
 abbrev pub check_app : App
-check_app = with_rule (new_app (codes "check")) (flag_rule (codes "strict"))
+check_app = command_app (codes "check") (
+    flag_rule (codes "json") ∷ flag_rule (codes "source") ∷ flag_rule (codes "color") ∷
+    flag_rule (codes "strict") ∷ [])
 
 -- the program, by the words after its name; it has a version (profile)
 abbrev pub top_app : App
@@ -78,11 +88,9 @@ top_app = on_top (λ top. record top { no_binary_name = true; has_version = true
 
 -- the program with its commands (profile)
 abbrev pub program_app : App
-program_app =
-    with_subcommand (with_subcommand (with_subcommand (with_subcommand (with_subcommand (with_subcommand
-    (with_subcommand (with_subcommand top_app check_app.top) explain_app.top) trace_app.top)
-    (new_app (codes "count")).top) draw_app.top) (new_app (codes "conform")).top)
-    (new_app (codes "serve")).top) threads_app.top
+program_app = fold (λ program command. with_subcommand program command.top) top_app (
+    check_app ∷ explain_app ∷ trace_app ∷ command_app (codes "count") [] ∷ draw_app ∷ conform_app ∷
+    command_app (codes "expand") [] ∷ command_app (codes "serve") [] ∷ threads_app ∷ [])
 
 -- what clap finds wrong with the words, if anything; to ask for help counts too
 abbrev pub faults_of_words : List Text → Kinds
@@ -139,11 +147,6 @@ high_threshold_text load = codes "error: invalid value '" ++ decimal load.thresh
     ++ codes "' for '--threshold <NUMBER>': " ++ decimal load.threshold ++ codes " is above the size, "
     ++ decimal load.size ++ codes "\n\nFor more information, try '--help'.\n"
 
--- something is wrong with the words
-abbrev pub IsMistaken : List Text → Type 0
-IsMistaken words = ((kind : ErrorKind) × IsAmong kind (faults_of_words words) × (kind ≢ DisplayHelp)
-    × (kind ≢ DisplayVersion)) ⊎ ((load : Workload) × AskHighThreshold words load)
-
 -- what was written is the totals of a run of workers with these numbers
 abbrev pub AreTotalsWritten : List Row → Option (List ℕ) → Option (List ℕ) → Type 0
 AreTotalsWritten rows old new = (load : Workload) × (totals : Totals) × AreNumbersOf rows load × IsInRange load
@@ -162,33 +165,76 @@ pub record IsChosenBy {A : Type 0} (rows : List Row) (name : Text) (on off this 
   pub given : one_of name rows ≡ Some (codes "true") → this ≡ on
   pub left_out : one_of name rows ≡ Some (codes "false") → this ≡ off
 
--- the form of a trace is the one that the option `--json` asks for
-abbrev pub IsFormOf : List Row → Trace → Type 0
-IsFormOf rows form = IsChosenBy rows (codes "json") Json Table form
+-- this is `form` where the option `--name`, which has no value, is given in these matches, and else it is so
+pub record IsGivenElse {A : Type 0} (rows : List Row) (name : Text) (form : A) (IsSo : A → Type 0) (this : A)
+    : Type 0 where
+  pub given : one_of name rows ≡ Some (codes "true") → this ≡ form
+  pub left_out : one_of name rows ≡ Some (codes "false") → IsSo this
+
+-- the form of a trace is the one that the first of its options asks for, where none is that of Chrome (profile)
+abbrev pub IsFormOf : List Row → Option Trace → Type 0
+IsFormOf rows form = IsGivenElse rows (codes "chrome") None (IsGivenElse rows (codes "json") (Some Json)
+    (IsGivenElse rows (codes "wide") (Some Wide) (λ other. other ≡ Some Table))) form
 
 -- the run is the one that was seen where the option `--seen` asks for that
 abbrev pub IsRunChosen : List Row → Run → Type 0
 IsRunChosen rows run = IsChosenBy rows (codes "seen") Seen Own run
 
+-- the form of a check is the one that the first of its options asks for (profile)
+abbrev pub IsCheckFormOf : List Row → CheckForm → Type 0
+IsCheckFormOf rows form = IsGivenElse rows (codes "json") check_form.Json
+    (IsGivenElse rows (codes "color") (Source true)
+    (IsGivenElse rows (codes "source") (Source false) (λ other. other ≡ Lines))) form
+
 -- warnings count as faults where the option `--strict` asks for that
-abbrev pub IsCheckOf : List Row → Check → Type 0
-IsCheckOf rows check = IsChosenBy rows (codes "strict") true false check.is_strict
+pub record IsCheckOf (rows : List Row) (check : Check) : Type 0 where
+  pub strict : IsChosenBy rows (codes "strict") true false check.is_strict
+  pub form : IsCheckFormOf rows check.form
+
+-- all steps that differ are told where the option `--all` asks for that
+abbrev pub IsConformanceChosen : List Row → Conformance → Type 0
+IsConformanceChosen rows conformance = IsChosenBy rows (codes "all") true false conformance.is_all
+
+-- the steps that the text of the option `--steps` names, and all where it is not given
+abbrev pub range_asked : List Row → Option StepRange
+range_asked rows = option_map_or range_of_text (first_of (codes "steps") rows) (Some all_steps)
+
+-- the number is the one that the option `--name`, which goes up to `most`, says, where it is given in these matches
+pub record IsNumberGiven (rows : List Row) (name : Text) (most : ℕ) (number : Option ℕ) : Type 0 where
+  pub given : (n : ℕ) → SaysNumber rows name 0 most n → number ≡ Some n
+  pub left_out : one_of name rows ≡ None → number ≡ None
+
+-- the first of the words of the option `--only` with which no answer begins
+abbrev pub unknown_answer : List Row → Option Text
+unknown_answer rows = option_and_then unknown_word (first_of (codes "only") rows)
+
+-- the lines are those that the options of `explain` choose
+pub record IsSelectionOf (rows : List Row) (selection : Selection) : Type 0 where
+  pub name : IsNumberGiven rows (codes "name") 4_294_967_295 selection.name
+  pub client : IsNumberGiven rows (codes "client") 65_535 selection.client
+  pub answers : option_map (λ answers. answers.text.now) selection.answers ≡ first_of (codes "only") rows
+  pub known : unknown_answer rows ≡ None
 
 -- the command with these matches asks for the report (profile)
 abbrev pub IsAskedBy : Text × List Row → Report → Type 0
 IsAskedBy found (report.Check check) = (found.0 ≡ codes "check") × IsCheckOf found.1 check
-IsAskedBy found (report.Explain run) = (found.0 ≡ codes "explain") × IsRunChosen found.1 run
+IsAskedBy found (report.Explain selection run) =
+    (found.0 ≡ codes "explain") × IsSelectionOf found.1 selection × IsRunChosen found.1 run
 IsAskedBy found (report.Trace form run) =
-    (found.0 ≡ codes "trace") × IsFormOf found.1 form × IsRunChosen found.1 run
+    (found.0 ≡ codes "trace") × IsFormOf found.1 (Some form) × IsRunChosen found.1 run
+IsAskedBy found (report.Chrome run) = (found.0 ≡ codes "trace") × IsFormOf found.1 None × IsRunChosen found.1 run
 IsAskedBy found report.Count = found.0 ≡ codes "count"
-IsAskedBy found (report.Draw run) = (found.0 ≡ codes "draw") × IsRunChosen found.1 run
-IsAskedBy found report.Conform = found.0 ≡ codes "conform"
+IsAskedBy found (report.Draw drawing run) =
+    (found.0 ≡ codes "draw") × (range_asked found.1 ≡ Some drawing.steps) × IsRunChosen found.1 run
+IsAskedBy found (report.Conform conformance) =
+    (found.0 ≡ codes "conform") × IsConformanceChosen found.1 conformance
+IsAskedBy found report.Expand = found.0 ≡ codes "expand"
 
 -- the command is one that asks for a report
 abbrev pub IsReportName : Text → Type 0
 IsReportName name =
     (name ≡ codes "check") ⊎ (name ≡ codes "explain") ⊎ (name ≡ codes "trace") ⊎ (name ≡ codes "count")
-    ⊎ (name ≡ codes "draw") ⊎ (name ≡ codes "conform")
+    ⊎ (name ≡ codes "draw") ⊎ (name ≡ codes "conform") ⊎ (name ≡ codes "expand")
 
 -- the words name a command that asks for a report, with these matches, and nothing is wrong with them
 abbrev pub NameReport : List Text → Text × List Row → Type 0
@@ -242,11 +288,48 @@ IsServeStopped fault had left contents old new =
 abbrev pub AskNoInput : List Text → Type 0
 AskNoInput words = (faults_of_words words ≢ []) ⊎ ((rows : List Row) × NameThreads words rows)
 
+-- the command has this value, of an option: no answer begins with the word, or the text names no steps (profile)
+abbrev pub IsWrongIn : Text × List Row → WrongValue → Type 0
+IsWrongIn found (Answer word) = (found.0 ≡ codes "explain") × (unknown_answer found.1 ≡ Some word.now)
+IsWrongIn found (Range text) = (found.0 ≡ codes "draw") × (first_of (codes "steps") found.1 ≡ Some text.now)
+    × (range_of_text text.now ≡ None)
+
+abbrev pub AskWrongValue : List Text → WrongValue → Type 0
+AskWrongValue words value = (found : Text × List Row) × NameReport words found × IsWrongIn found value
+
+-- what is said of a word, with all words with which answers begin (profile)
+abbrev pub unknown_answer_text : Text → List ℕ
+unknown_answer_text word = codes "error: invalid value '" ++ word
+    ++ (codes "' for '--only <WORDS>'\n  [possible values: " ++ join_by (λ known. known) (codes ", ") answer_words
+    ++ codes "]\n\nFor more information, try '--help'.\n")
+
+-- what is said of a text (profile)
+abbrev pub unknown_range_text : Text → List ℕ
+unknown_range_text text = codes "error: invalid value '" ++ text
+    ++ codes "' for '--steps <A..B>': a range as 3..9, 3.. or ..9 is wanted\n\nFor more information, try '--help'.\n"
+
+abbrev pub wrong_value_text : WrongValue → List ℕ
+wrong_value_text (Answer word) = unknown_answer_text word.now
+wrong_value_text (Range text) = unknown_range_text text.now
+
+-- something is wrong with the words
+abbrev pub IsMistaken : List Text → Type 0
+IsMistaken words = ((kind : ErrorKind) × IsAmong kind (faults_of_words words) × (kind ≢ DisplayHelp)
+    × (kind ≢ DisplayVersion)) ⊎ ((load : Workload) × AskHighThreshold words load)
+    ⊎ ((value : WrongValue) × AskWrongValue words value)
+
+-- what a command that asks for a report asks for: for the report, or with a value that means nothing
+abbrev pub AsksBy : Text × List Row → Asked → Type 0
+AsksBy found (asked.Report report) = IsAskedBy found report
+AsksBy found (asked.WrongValue value) = IsWrongIn found value
+AsksBy found _ = ⊥
+
 -- what the words ask for: workers, of whom it may be too much, a report, a dialogue, or else a scenario
 abbrev pub AsksFor : List Text → Asked → Type 0
 AsksFor words Scenario = (name : Text) → IsReportName name ⊎ (name ≡ codes "serve") ⊎ (name ≡ codes "threads")
     → command_in words ≢ Some name
 AsksFor words (asked.Report report) = (found : Text × List Row) × NameReport words found × IsAskedBy found report
+AsksFor words (asked.WrongValue value) = AskWrongValue words value
 AsksFor words Serve = NameServe words
 AsksFor words (Threads load) = AskForWorkers words load
 AsksFor words (HighThreshold load) = AskHighThreshold words load

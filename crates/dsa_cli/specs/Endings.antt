@@ -24,6 +24,13 @@ pub record IsEnd {O E : Type 0} (status : ℕ) (out out' : WatchedWriter O) (err
   pub quiet : IsQuiet status out' err err'
   pub statuses : (status ≡ 0) ⊎ (status ≡ 1)
 
+-- the status is that of a usage error, and the text was added to what the writer holds, unless that refused a write
+pub record IsRefusal {E : Type 0} (ended : ℕ) (contents : E → Option (List ℕ)) (old new : WatchedWriter E)
+    (told : List ℕ) : Type 0 where
+  pub status : ended ≡ 2
+  pub same_writer : IsSameWriter old new
+  pub text : has_refused new ≡ false → Appends (watched_contents contents old) (watched_contents contents new) told
+
 -- a fault ended it in this way, and is told
 abbrev pub IsEndedBy : {O E : Type 0} → (ScenarioFault → Type 0) → WatchedWriter O → (E → Option (List ℕ))
     → WatchedWriter E → WatchedWriter E → Type 0

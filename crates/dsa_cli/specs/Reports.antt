@@ -3,16 +3,18 @@ use Rattle.std.specs.Prelude.{◌≡◌, ℕ, List, Option, None}
 use Rattle.dsa_scenario.specs.declared.faults.ScenarioFault.{ScenarioFault}
 use Rattle.dsa_scenario.specs.Scenario.{IsTextWritten, IsTextCutShort}
 use Rattle.dsa_check.specs.Check.{IsCheckReportOf as IsCheckOf}
-use Rattle.dsa_conform.specs.{AsSeen.{IsMadeAsSeen}, Run.{IsConformance}}
-use Rattle.dsa_explain_lines.specs.Run.{IsExplanationOf}
+use Rattle.dsa_conform.specs.{AsSeen.{IsMadeAsSeen}, Every.{IsConformanceOf}}
+use Rattle.dsa_chosen.specs.Run.{AreChosenOf}
 use Rattle.dsa_device.specs.Running.{Running}
 use Rattle.dsa_scenario.specs.Steps.{Visit, IsTextOfDocument}
 use Rattle.dsa_scenario.specs.Streams.{AreLinesOfStart, IsTextBegun}
 use Rattle.dsa_trace.specs.{Lines.{trace_line_of_step}, Run.{IsTraceOf}}
+use Rattle.dsa_chrome.specs.Traces.{IsChromeTraceOf}
 use Rattle.dsa_count.specs.Totals.{AreTotalsOfDocument}
 use Rattle.dsa_draw.specs.Drawings.{IsDrawnOf}
+use Rattle.dsa_expand.specs.Expansion.{IsExpansion}
 use Rattle.dsa_cli.specs.declared.reports.{Report.{Report}, Run.{Run, TheVariants.{Own, Seen}}}
-use Rattle.dsa_cli.specs.declared.reports.Report.TheVariants.{Check, Explain, Trace, Count, Draw, Conform}
+use Rattle.dsa_cli.specs.declared.reports.Report.TheVariants.{Check, Explain, Trace, Chrome, Count, Draw, Conform, Expand}
 
 -- the text, and the fault that is told after it, are made of this run of a document (profile)
 abbrev pub IsMadeOfRun : Run → (List Visit → Running → List ℕ → Type 0) → List ℕ → Option ScenarioFault → List ℕ
@@ -23,11 +25,13 @@ IsMadeOfRun Seen is_text bytes fault text = IsMadeAsSeen is_text bytes fault tex
 -- they are this report on a document (profile)
 abbrev pub IsReportOf : Report → List ℕ → Option ScenarioFault → List ℕ → Type 0
 IsReportOf (Check check) bytes fault text = IsCheckOf check bytes fault text
-IsReportOf (Explain run) bytes fault text = IsMadeOfRun run IsExplanationOf bytes fault text
+IsReportOf (Explain selection run) bytes fault text = IsMadeOfRun run (AreChosenOf selection) bytes fault text
 IsReportOf (Trace form run) bytes fault text = IsMadeOfRun run (IsTraceOf form) bytes fault text
+IsReportOf (Chrome run) bytes fault text = IsMadeOfRun run IsChromeTraceOf bytes fault text
 IsReportOf Count bytes fault text = (fault ≡ None) × AreTotalsOfDocument bytes text
-IsReportOf (Draw run) bytes fault text = IsMadeOfRun run IsDrawnOf bytes fault text
-IsReportOf Conform bytes fault text = IsConformance bytes fault text
+IsReportOf (Draw drawing run) bytes fault text = IsMadeOfRun run (IsDrawnOf drawing.steps) bytes fault text
+IsReportOf (Conform conformance) bytes fault text = IsConformanceOf conformance.is_all bytes fault text
+IsReportOf Expand bytes fault text = IsExpansion bytes fault text
 
 -- the reader gave a document, and all of the report on it was written; then this fault is told
 abbrev pub IsReported : Report → Option ScenarioFault → Option (List ℕ) → Option (List ℕ) → Option (List ℕ)

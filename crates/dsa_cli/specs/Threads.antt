@@ -37,7 +37,7 @@ use Rattle.dsa_cli.specs.declared.threads.ThreadsFault.TheVariants.{OutOfMemory}
 use Rattle.dsa_cli.specs.declared.options.Workload.{Workload}
 use Rattle.dsa_cli.specs.declared.options.Asked.{Asked}
 use Rattle.dsa_cli.specs.declared.options.Asked.TheVariants.{Scenario, Report, Serve, Threads}
-use Rattle.dsa_cli.specs.declared.options.Asked.TheVariants.{HighThreshold}
+use Rattle.dsa_cli.specs.declared.options.Asked.TheVariants.{HighThreshold, WrongValue}
 use Rattle.dsa_scenario.specs.Lines.{line_of_text}
 
 -- ---- what is asked
@@ -56,6 +56,7 @@ pub record IsInRange (load : Workload) : Type 0 where
 abbrev pub IsAskedInRange : Asked → Type 0
 IsAskedInRange Scenario = ⊤
 IsAskedInRange (Report report) = ⊤
+IsAskedInRange (WrongValue value) = ⊤
 IsAskedInRange Serve = ⊤
 IsAskedInRange (Threads load) = IsInRange load
 IsAskedInRange (HighThreshold load) = ⊤

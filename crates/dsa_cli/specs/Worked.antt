@@ -1,7 +1,8 @@
 -- Words, loads and bytes that the worked rows speak of.
 use Rattle.dsa_book.specs.declared.event.Event.TheVariants as event
-use Rattle.std.specs.Prelude.{ℕ, List, [], ◌∷◌, ◌++◌, replicate, codes, Option, None}
-use Rattle.std.specs.Prelude.{option_and_then}
+use Rattle.std.specs.Prelude.{ℕ, Bool, false, List, [], ◌∷◌, ◌++◌, replicate, codes, Option, Some, None}
+use Rattle.std.specs.Prelude.{option_and_then, if◌then◌else◌, bytes_eq}
+use Rattle.std.specs.Borrow.{Bor}
 use Rattle.dsa_desc.specs.declared.Outcome.TheVariants.{Success}
 use Rattle.dsa_book.specs.declared.answer.Cause.TheVariants.{AtLimit}
 use Rattle.dsa_book.specs.declared.answer.Reply.TheVariants.{Submit, Dispatch, Finish}
@@ -14,6 +15,10 @@ use Rattle.dsa_book.specs.declared.event.Step.{Step}
 use Rattle.dsa_shared.specs.Seat.{SeatLog}
 use Rattle.dsa_scenario.specs.Worked.{record_ticket}
 use Rattle.dsa_workers.specs.declared.scripts.ClientStep.{ClientStep}
+use Rattle.dsa_chosen.specs.{declared.selection.Selection.{Selection}, Worked.{of_client_and_answers}}
+use Rattle.dsa_check.specs.declared.checking.{Check.{Check}, CheckForm.{CheckForm}}
+use Rattle.dsa_conform.specs.declared.rendering.Conformance.{Conformance}
+use Rattle.dsa_draw.specs.{declared.run.Drawing.{Drawing}, Ranges.{all_steps}}
 use Rattle.clap.specs.{Walk.{Row, Text, one_of}, Simple.{subcommand_of}}
 use Rattle.clap.specs.declared.builder.value_parser.Reading.TheVariants.{AsWritten}
 use Rattle.dsa_cli.specs.{declared.options.Workload.{Workload}, CommandLine.{program_app}}
@@ -93,9 +98,22 @@ threads_with option value = codes "threads" ∷ option ∷ value ∷ []
 abbrev pub json_trace : List Text
 json_trace = codes "trace" ∷ codes "--json" ∷ []
 
--- the command `trace` with both of its options
+-- the command `trace` with two of its options
 abbrev pub seen_json_trace : List Text
 seen_json_trace = codes "trace" ∷ codes "--seen" ∷ codes "--json" ∷ []
+
+-- the command `explain` with one option
+abbrev pub explain_with : Text → Text → List Text
+explain_with option value = codes "explain" ∷ option ∷ value ∷ []
+
+-- the command `explain` with each of its options
+abbrev pub chosen_words : List Text
+chosen_words = codes "explain" ∷ codes "--name" ∷ codes "3" ∷ codes "--client" ∷ codes "2" ∷
+    codes "--only" ∷ codes "retry,idle" ∷ codes "--seen" ∷ []
+
+-- the lines that they choose
+abbrev pub lines_of_one_entry : Selection
+lines_of_one_entry = record (of_client_and_answers 2 (codes "retry,idle")) { name = Some 3 }
 
 -- a command with the option of the run that was seen
 abbrev pub words_with_seen : Text → List Text
@@ -114,6 +132,47 @@ abbrev pub option_row : Text → Text → List Row
 option_row name value =
     record { id = name; values = value ∷ []; count = None; source = None; reading = AsWritten } ∷ []
 
--- the matches of `trace`, with these values of its options
+-- a word that is lent
+abbrev pub lent_text : Text → Bor Text
+lent_text text = record { ref_ptr = (0, 0); now = text }
+
+-- the matches of `explain` with these values of its options
+abbrev pub explain_rows : Text → Text → Text → Text → List Row
+explain_rows name client only seen = option_row (codes "name") name ++ option_row (codes "client") client
+    ++ option_row (codes "only") only ++ option_row (codes "seen") seen
+
+-- the value of the option `--name`, which has none, where `given` alone is given
+abbrev pub value_of : Text → Text → Text
+value_of given name = if bytes_eq given name then codes "true" else codes "false"
+
+-- the matches of `check` with this option alone
+abbrev pub check_rows : Text → List Row
+check_rows given = option_row (codes "json") (value_of given (codes "json"))
+    ++ option_row (codes "source") (value_of given (codes "source"))
+    ++ option_row (codes "color") (value_of given (codes "color"))
+    ++ option_row (codes "strict") (value_of given (codes "strict"))
+
+-- the matches of `draw` with these steps
+abbrev pub draw_rows : Text → Text → List Row
+draw_rows steps seen = option_row (codes "steps") steps ++ option_row (codes "seen") seen
+
+-- a drawing of these steps, and one of all
+abbrev pub drawing_of : ℕ → ℕ → Drawing
+drawing_of first end = record { steps = record { first = first; end = end } }
+
+abbrev pub whole_drawing : Drawing
+whole_drawing = record { steps = all_steps }
+
+-- a check in this form, in which warnings count as no faults
+abbrev pub check_in : CheckForm → Check
+check_in form = record { is_strict = false; form = form }
+
+-- a comparison that tells the first step that differs, or all
+abbrev pub comparison : Bool → Conformance
+comparison is_all = record { is_all = is_all }
+
+-- the matches of `trace` with the option of this form, and this value of `--seen`
 abbrev pub trace_rows : Text → Text → List Row
-trace_rows json seen = option_row (codes "json") json ++ option_row (codes "seen") seen
+trace_rows form seen = option_row (codes "wide") (value_of form (codes "wide"))
+    ++ option_row (codes "json") (value_of form (codes "json"))
+    ++ option_row (codes "chrome") (value_of form (codes "chrome")) ++ option_row (codes "seen") seen

@@ -13,7 +13,7 @@ mod threads;
 mod totals;
 mod words;
 
-pub use options::{Asked, Workload, read_words};
+pub use options::{Asked, Workload, WrongValue, read_words};
 pub use reports::{Report, Run};
 pub use threads::{ThreadsFault, run_workload};
 pub use totals::render_totals;

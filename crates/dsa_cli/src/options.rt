@@ -1,20 +1,30 @@
 //! The words of the command line, read with `clap`.
 
-ghost use Rattle.std.specs.Prelude.{◌≡◌, ◌≢◌, ◌≤◌, ◌<◌, true, false, List, Ok, Some};
-ghost use Rattle.std.specs.Prelude.{IfSome, IfNone, IfOk, length, map, option_map, string_bytes};
-ghost use Rattle.clap.specs.Words.{Row, Text, app_of, rule_of, found_of, rows_of, FailsBy};
+ghost use Rattle.std.specs.Prelude.{◌≡◌, ◌≢◌, ◌≤◌, ◌<◌, true, false, List, Ok, Some, None};
+ghost use Rattle.std.specs.Prelude.{IfSome, IfNone, IfOk, IfErr, codes, length, map, option_map};
+ghost use Rattle.std.specs.Prelude.{string_bytes};
+ghost use Rattle.clap.specs.Words.{Row, Text, app_of, rule_of, found_of, first_of, rows_of};
+ghost use Rattle.clap.specs.Words.{FailsBy};
 ghost use Rattle.clap.specs.Simple.{new_app, with_rule, subcommand_rows_of};
 ghost use Rattle.clap.specs.declared.builder.command.Command.TheViews.{out-Command as fields_of};
 ghost use Rattle.dsa_cli.specs.Threads.{IsInRange, IsAskedInRange};
-ghost use Rattle.dsa_cli.specs.CommandLine.{number_rule, flag_rule, threads_app};
-ghost use Rattle.dsa_cli.specs.CommandLine.{top_app, program_app, with_seen_rule};
-ghost use Rattle.dsa_cli.specs.CommandLine.{IsNumberOf, AreNumbersOf};
+ghost use Rattle.dsa_cli.specs.CommandLine.{text_rule, number_rule, default_rule, flag_rule};
+ghost use Rattle.dsa_cli.specs.CommandLine.{check_app, explain_app, trace_app, draw_app};
+ghost use Rattle.dsa_cli.specs.CommandLine.{conform_app, threads_app, top_app, program_app};
+ghost use Rattle.dsa_cli.specs.CommandLine.{IsNumberOf, IsNumberGiven, AreNumbersOf};
 ghost use Rattle.dsa_cli.specs.CommandLine.{IsChosenBy, IsFormOf, IsRunChosen, IsCheckOf};
-ghost use Rattle.dsa_cli.specs.CommandLine.{IsReportName, IsAskedBy, AsksFor, faults_of_words};
+ghost use Rattle.dsa_cli.specs.CommandLine.{IsAskedBy, IsReportName, AsksBy, AsksFor};
+ghost use Rattle.dsa_cli.specs.CommandLine.{IsCheckFormOf, IsConformanceChosen, range_asked};
+ghost use Rattle.dsa_cli.specs.CommandLine.{unknown_answer};
+ghost use Rattle.dsa_draw.specs.Ranges.{range_of_text};
+ghost use Rattle.dsa_cli.specs.CommandLine.{faults_of_words};
 
 use crate::reports::{Report, Run};
 use clap::{Arg, ArgAction, ArgMatches, Command, Error, value_parser};
-use dsa_check::Check;
+use dsa_check::{Check, CheckForm};
+use dsa_chosen::{AnswerWords, Selection};
+use dsa_conform::Conformance;
+use dsa_draw::{Drawing, StepRange};
 use dsa_release::version_text;
 use dsa_trace::Trace;
 use std::alloc::{AllocError, Global};
@@ -40,13 +50,24 @@ pub struct Workload {
     pub buffers: u16,
 }
 
+/// A value of an option that means nothing.
+#[derive(Clone, Copy, Debug, PartialEq, Eq)]
+pub enum WrongValue<'a> {
+    /// A word with which no answer begins.
+    Answer(&'a str),
+    /// A text that names no range of steps.
+    Range(&'a str),
+}
+
 /// What the words ask for.
 #[derive(Clone, Copy, Debug, PartialEq, Eq)]
-pub enum Asked {
+pub enum Asked<'a> {
     /// A scenario from standard input.
     Scenario,
     /// A report on the scenario from standard input.
-    Report(Report),
+    Report(Report<'a>),
+    /// A report with this value of an option, which is a usage error.
+    WrongValue(WrongValue<'a>),
     /// A dialogue: a scenario in the first line of standard input, and then a request in each line.
     Serve,
     /// Workers in threads.
@@ -54,6 +75,9 @@ pub enum Asked {
     /// Such workers with a threshold above the size, which is a usage error.
     HighThreshold(Workload),
 }
+
+/// The greatest number of a client in a document.
+const MOST_CLIENT_NUMBER: u32 = 65_535;
 
 const MOST_CLIENTS: u32 = 16;
 
@@ -83,15 +107,20 @@ const CHECK_HELP: &str = "\
 Reads one scenario document (JSON) from standard input, and writes a line for each fault,
 with its place, and then a line for each warning: a key that nothing reads, and an \"answer\"
 or a \"zf\" that conform would refuse. No step is made. The fault that a run would report
-goes to standard error. With --strict a warning counts as a fault.
+goes to standard error. With --strict a warning counts as a fault. With --json each line
+is a JSON object. With --source the line of the document is shown below, with a mark
+below the place, and with --color in colors.
 
 Exit status: 0 no fault, 1 a fault, 2 a usage error.";
 
 const EXPLAIN_HELP: &str = "\
 Reads one scenario document (JSON) from standard input, makes its steps on a model of a
 device, and writes a line for each step: its number, the event and the answer, and the
-reason where the device turned the step down or the step has to wait. With --seen the
-run is one that conform follows, by the \"answer\" and the \"zf\" of the steps.
+reason where the device turned the step down or the step has to wait. With --name only
+the lines about that entry are written, and then what became of it; with --client those
+of that client; with --only those with an answer that begins with one of the words, such
+as retry,idle. With --seen the run is one that conform follows, by the \"answer\" and the
+\"zf\" of the steps.
 
 Exit status: 0 done, 1 a fault (its line goes to standard error), 2 a usage error.";
 
@@ -99,8 +128,9 @@ const TRACE_HELP: &str = "\
 Reads one scenario document (JSON) from standard input, makes its steps on a model of a
 device, and writes a line for each step: its number, the event, the answer, and what the
 device shows after it. A line follows for each entry that the device still holds. With
---seen the run is one that conform follows, by the \"answer\" and the \"zf\" of the
-steps.
+--wide the row shows what is not configured, too. With --chrome it writes Chrome trace
+events, which Perfetto shows. With --seen the run is one that conform follows, by the
+\"answer\" and the \"zf\" of the steps.
 
 Exit status: 0 done, 1 a fault (its line goes to standard error), 2 a usage error.";
 
@@ -114,8 +144,9 @@ Exit status: 0 done, 1 a fault (its line goes to standard error), 2 a usage erro
 
 const DRAW_HELP: &str = "\
 Reads one scenario document (JSON) from standard input, makes its steps on a model of a
-device, and writes a drawing of the run, as SVG. With --seen the run is one that
-conform follows, by the \"answer\" and the \"zf\" of the steps.
+device, and writes a drawing of the run, as SVG. With --steps A..B it has the steps from
+A to B, with --steps A.. or ..B those from A on or up to B. With --seen the run is one
+that conform follows, by the \"answer\" and the \"zf\" of the steps.
 
 Exit status: 0 done, 1 a fault (its line goes to standard error), 2 a usage error.";
 
@@ -124,18 +155,27 @@ Reads one scenario document (JSON) from standard input. Its steps also have what
 device was seen to answer: \"answer\", the line of the step with or without the name of the
 entry, or \"zf\", the zero flag that ENQCMD left. The model follows as long as the rules
 allow these answers. At the first step where they do not, the program writes the step and
-all answers that they allow.
+all answers that they allow. With --all it goes on after such a step, as if nothing had
+been seen of it, and writes each.
 
 Exit status: 0 all answers are allowed, 1 one is not, or a fault (its line goes to
 standard error), 2 a usage error.";
 
+const EXPAND_HELP: &str = "\
+Reads one friendly document (JSON) from standard input, and writes the scenario document
+that it means: commands may be given by name, descriptors as objects, queues and engines as
+lists, and entries may have names of your own. A scenario document stays as it is.
+
+Exit status: 0 done, 1 a fault (its line goes to standard error), 2 a usage error.";
+
 const SERVE_HELP: &str = "\
-Reads one scenario document (JSON) from the first line of standard input, and then a step
-from each line. Each step is made as it comes, on one model of a device, and answered with
-its line before the next is read. {\"do\": \"show\"} is answered with the state of the device,
+Reads one scenario document (JSON), in one line or several, from standard input, and then a
+step from each line. Each step is made as it comes, on one model of a device, and answered
+with its line before the next is read; after the document's own steps comes the line
+\"ready N\" with their number. {\"do\": \"show\"} is answered with the state of the device,
 and {\"do\": \"fates\"} with what became of the descriptors that ended since the last such line.
-Any other line is answered with its fault, and changes nothing. At the end of input comes a
-line for each descriptor that ended.
+Any other line is answered with its fault and the reason, and changes nothing. At the end of
+input comes a line for each descriptor that ended.
 
 Exit status: 0 done, 1 a fault (its line goes to standard error), 2 a usage error.";
 
@@ -164,25 +204,34 @@ const SLOTS: &str = "How many entries an engine works on at once, 1 to 16";
 
 const BUFFERS: &str = "How many read buffers there are, 4 to 255";
 
+const NAME: &str = "Show the steps about the entry of this name, and its fate";
+
+const CLIENT: &str = "Show the steps of this client";
+
+const ONLY: &str = "Show the steps with an answer that begins with one of these words";
+
+const STEPS: &str = "Draw the steps from A to B, as 3..9, 3.. or ..9";
+
+// An option that takes a value.
+fn text_option<'a>(alloc: Global, name: &'a str, value: &'a str, help: &'a str) -> Arg<'a>
+    ensures rule { rule_of result ≡ text_rule name.entry.now }
+    ensures local { result.global ≡ false }
+{
+    Arg::new(alloc, name)
+        .long(name)
+        .value_name(value)
+        .help(help)
+}
+
 // An option that takes a number from `least` to `most`.
-fn number_option<'a>(
-    alloc: Global,
-    name: &'a str,
-    least: u32,
-    most: u32,
-    default: &'a str,
-    help: &'a str,
-) -> Arg<'a>
-    requires least { least ≤ 40_000 }
-    requires most { most ≤ 40_000 }
-    ensures rule { rule_of result ≡ number_rule name.entry.now least most default.entry.now }
+fn number_option<'a>(alloc: Global, name: &'a str, least: u32, most: u32, help: &'a str) -> Arg<'a>
+    ensures rule { rule_of result ≡ number_rule name.entry.now least most }
     ensures local { result.global ≡ false }
 {
     Arg::new(alloc, name)
         .long(name)
         .value_name("NUMBER")
         .value_parser(value_parser!(u32).range(i64::from(least)..=i64::from(most)))
-        .default_value(default)
         .help(help)
 }
 
@@ -197,7 +246,7 @@ fn with_option<'a>(command: Command<'a>, option: Arg<'a>) -> Result<Command<'a>,
     command.arg(option)
 }
 
-// The command with one more option that takes a number.
+// The command with one more option that takes a number, and has this one where none is given.
 fn with_number<'a>(
     alloc: Global,
     command: Command<'a>,
@@ -207,17 +256,13 @@ fn with_number<'a>(
     default: &'a str,
     help: &'a str,
 ) -> Result<Command<'a>, AllocError>
-    requires least { least ≤ 40_000 }
-    requires most { most ≤ 40_000 }
     requires no_globals { (fields_of command).has_globals ≡ false }
     ensures app { IfOk result (λ c. app_of c ≡ with_rule (app_of command.entry)
-        (number_rule name.entry.now least most default.entry.now)) }
+        (default_rule name.entry.now least most default.entry.now)) }
     ensures local { IfOk result (λ c. (fields_of c).has_globals ≡ false) }
 {
-    with_option(
-        command,
-        number_option(alloc, name, least, most, default, help),
-    )
+    let option = number_option(alloc, name, least, most, help);
+    with_option(command, option.default_value(default))
 }
 
 fn threads_command<'a>(alloc: Global) -> Result<Command<'a>, AllocError>
@@ -255,16 +300,29 @@ fn flag<'a>(alloc: Global, name: &'a str, help: &'a str) -> Arg<'a>
         .help(help)
 }
 
+// The command with one more option that takes no value.
+fn with_flag<'a>(
+    alloc: Global,
+    command: Command<'a>,
+    name: &'a str,
+    help: &'a str,
+) -> Result<Command<'a>, AllocError>
+    requires no_globals { (fields_of command).has_globals ≡ false }
+    ensures app { IfOk result
+        (λ c. app_of c ≡ with_rule (app_of command.entry) (flag_rule name.entry.now)) }
+    ensures local { IfOk result (λ c. (fields_of c).has_globals ≡ false) }
+{
+    with_option(command, flag(alloc, name, help))
+}
+
 // The command with the option of the run that was seen.
 fn with_seen<'a>(alloc: Global, command: Command<'a>) -> Result<Command<'a>, AllocError>
     requires no_globals { (fields_of command).has_globals ≡ false }
-    ensures app { IfOk result (λ c. app_of c ≡ with_seen_rule (app_of command.entry)) }
+    ensures app { IfOk result
+        (λ c. app_of c ≡ with_rule (app_of command.entry) (flag_rule (codes "seen"))) }
     ensures local { IfOk result (λ c. (fields_of c).has_globals ≡ false) }
 {
-    with_option(
-        command,
-        flag(alloc, "seen", "Show a run that conform follows"),
-    )
+    with_flag(alloc, command, "seen", "Show a run that conform follows")
 }
 
 // A command that takes no options.
@@ -295,30 +353,79 @@ fn top_command<'a>(alloc: Global) -> Result<Command<'a>, AllocError>
     Ok(command)
 }
 
+fn check_command<'a>(alloc: Global) -> Result<Command<'a>, AllocError>
+    ensures app { IfOk result (λ c. app_of c ≡ check_app) }
+    ensures local { IfOk result (λ c. (fields_of c).has_globals ≡ false) }
+{
+    let about = "What is wrong with the document, and where?";
+    let command = plain_command(alloc, "check", about, CHECK_HELP);
+    let command = with_flag(alloc, command, "json", "Write a JSON object in each line")?;
+    let command = with_flag(alloc, command, "source", "Show the source below each line")?;
+    let command = with_flag(alloc, command, "color", "Show the source with colors")?;
+    with_flag(alloc, command, "strict", "Count a warning as a fault")
+}
+
+fn explain_command<'a>(alloc: Global) -> Result<Command<'a>, AllocError>
+    ensures app { IfOk result (λ c. app_of c ≡ explain_app) }
+    ensures local { IfOk result (λ c. (fields_of c).has_globals ≡ false) }
+{
+    let about = "Why was each step answered as it was?";
+    let command = plain_command(alloc, "explain", about, EXPLAIN_HELP);
+    let name = number_option(alloc, "name", 0, u32::MAX, NAME);
+    let client = number_option(alloc, "client", 0, MOST_CLIENT_NUMBER, CLIENT);
+    let only = text_option(alloc, "only", "WORDS", ONLY);
+    let command = with_option(command, name)?;
+    let command = with_option(command, client)?;
+    let command = with_option(command, only)?;
+    with_seen(alloc, command)
+}
+
+fn trace_command<'a>(alloc: Global) -> Result<Command<'a>, AllocError>
+    ensures app { IfOk result (λ c. app_of c ≡ trace_app) }
+    ensures local { IfOk result (λ c. (fields_of c).has_globals ≡ false) }
+{
+    let about = "What does the device hold after each step?";
+    let command = plain_command(alloc, "trace", about, TRACE_HELP);
+    let command = with_flag(alloc, command, "wide", "Show what is not configured, too")?;
+    let command = with_flag(alloc, command, "json", "Write a JSON object in each line")?;
+    let command = with_flag(alloc, command, "chrome", "Write Chrome trace events")?;
+    with_seen(alloc, command)
+}
+
+fn draw_command<'a>(alloc: Global) -> Result<Command<'a>, AllocError>
+    ensures app { IfOk result (λ c. app_of c ≡ draw_app) }
+    ensures local { IfOk result (λ c. (fields_of c).has_globals ≡ false) }
+{
+    let about = "What does the whole run look like?";
+    let command = plain_command(alloc, "draw", about, DRAW_HELP);
+    let command = with_option(command, text_option(alloc, "steps", "A..B", STEPS))?;
+    with_seen(alloc, command)
+}
+
+fn conform_command<'a>(alloc: Global) -> Result<Command<'a>, AllocError>
+    ensures app { IfOk result (λ c. app_of c ≡ conform_app) }
+    ensures local { IfOk result (λ c. (fields_of c).has_globals ≡ false) }
+{
+    let about = "May a device answer as another one was seen to answer?";
+    let command = plain_command(alloc, "conform", about, CONFORM_HELP);
+    with_flag(alloc, command, "all", "Write each step that differs")
+}
+
 fn command_line<'a>(alloc: Global) -> Result<Command<'a>, AllocError>
     ensures { IfOk result (λ c. app_of c ≡ program_app) }
 {
-    let check = "What is wrong with the document, and where?";
-    let check = plain_command(alloc, "check", check, CHECK_HELP);
-    let strict = flag(alloc, "strict", "Count a warning as a fault");
-    let explain = "Why was each step answered as it was?";
-    let explain = plain_command(alloc, "explain", explain, EXPLAIN_HELP);
-    let trace = "What does the device hold after each step?";
-    let trace = plain_command(alloc, "trace", trace, TRACE_HELP);
-    let json = flag(alloc, "json", "Write a JSON object in each line");
     let count = "How many were turned away and why, how full did it get, \
         how long did commands wait?";
-    let draw = "What does the whole run look like?";
-    let draw = plain_command(alloc, "draw", draw, DRAW_HELP);
-    let conform = "May a device answer as another one was seen to answer?";
+    let expand = "Which scenario document does a friendly one mean?";
     let serve = "What does the device answer to my next step?";
     top_command(alloc)?
-        .subcommand(with_option(check, strict)?)?
-        .subcommand(with_seen(alloc, explain)?)?
-        .subcommand(with_seen(alloc, with_option(trace, json)?)?)?
+        .subcommand(check_command(alloc)?)?
+        .subcommand(explain_command(alloc)?)?
+        .subcommand(trace_command(alloc)?)?
         .subcommand(plain_command(alloc, "count", count, COUNT_HELP))?
-        .subcommand(with_seen(alloc, draw)?)?
-        .subcommand(plain_command(alloc, "conform", conform, CONFORM_HELP))?
+        .subcommand(draw_command(alloc)?)?
+        .subcommand(conform_command(alloc)?)?
+        .subcommand(plain_command(alloc, "expand", expand, EXPAND_HELP))?
         .subcommand(plain_command(alloc, "serve", serve, SERVE_HELP))?
         .subcommand(threads_command(alloc)?)
 }
@@ -353,7 +460,7 @@ fn workload_of(given: &ArgMatches<'_>) -> Workload
 }
 
 // What such numbers ask for.
-fn asked_by(load: Workload) -> Asked
+fn asked_by<'a>(load: Workload) -> Asked<'a>
     ensures workers { load.threshold ≤ load.size → result ≡ Asked.Threads load }
     ensures refused { load.size < load.threshold → result ≡ Asked.HighThreshold load }
 {
@@ -371,15 +478,20 @@ fn is_given(given: &ArgMatches<'_>, name: &str) -> bool
     given.get_flag(name)
 }
 
-// The form that the option of `trace` asks for.
-fn form_of(given: &ArgMatches<'_>) -> Trace
+// The form of a trace that the first of these options asks for, where it is not that of Chrome.
+fn form_of(given: &ArgMatches<'_>) -> Option<Trace>
     ensures { IsFormOf (rows_of (found_of given.now)) result }
 {
-    if is_given(given, "json") {
-        Trace::Json
-    } else {
-        Trace::Table
+    if is_given(given, "chrome") {
+        return None;
     }
+    if is_given(given, "json") {
+        return Some(Trace::Json);
+    }
+    if is_given(given, "wide") {
+        return Some(Trace::Wide);
+    }
+    Some(Trace::Table)
 }
 
 // The run that the option `--seen` asks for.
@@ -393,12 +505,123 @@ fn run_of(given: &ArgMatches<'_>) -> Run
     }
 }
 
-// The check that the option of `check` asks for.
+// The trace that the options of `trace` ask for.
+fn trace_of<'a>(given: &ArgMatches<'_>) -> Report<'a>
+    ensures { IsAskedBy (codes "trace", rows_of (found_of given.now)) result }
+{
+    match form_of(given) {
+        Some(form) => Report::Trace(form, run_of(given)),
+        None => Report::Chrome(run_of(given)),
+    }
+}
+
+// The form of a check that the first of these options asks for.
+fn check_form_of(given: &ArgMatches<'_>) -> CheckForm
+    ensures { IsCheckFormOf (rows_of (found_of given.now)) result }
+{
+    if is_given(given, "json") {
+        return CheckForm::Json;
+    }
+    if is_given(given, "color") {
+        return CheckForm::Source { is_colored: true };
+    }
+    if is_given(given, "source") {
+        return CheckForm::Source { is_colored: false };
+    }
+    CheckForm::Lines
+}
+
+// The check that the options of `check` ask for.
 fn check_of(given: &ArgMatches<'_>) -> Check
     ensures { IsCheckOf (rows_of (found_of given.now)) result }
 {
     Check {
         is_strict: is_given(given, "strict"),
+        form: check_form_of(given),
+    }
+}
+
+// The comparison that the option of `conform` asks for.
+fn conformance_of(given: &ArgMatches<'_>) -> Conformance
+    ensures { IsConformanceChosen (rows_of (found_of given.now)) result }
+{
+    Conformance {
+        is_all: is_given(given, "all"),
+    }
+}
+
+// The steps that the option of `draw` names, or a text that names none.
+fn range_given<'a>(given: &ArgMatches<'a>) -> Result<StepRange, &'a str>
+    ensures steps { IfOk result
+        (λ range. range_asked (rows_of (found_of given.now)) ≡ Some range) }
+    ensures text { IfErr result
+        (λ text. first_of (codes "steps") (rows_of (found_of given.now)) ≡ Some text.now) }
+    ensures wrong { IfErr result (λ text. range_of_text text.now ≡ None) }
+{
+    match given.get_str("steps") {
+        Some(text) => match StepRange::parse(text) {
+            Some(range) => Ok(range),
+            None => Err(text),
+        },
+        None => Ok(StepRange::all()),
+    }
+}
+
+// What `draw` with these options asks for.
+fn drawing_asked<'a>(given: &ArgMatches<'a>) -> Asked<'a>
+    ensures { AsksBy (codes "draw", rows_of (found_of given.now)) result }
+{
+    match range_given(given) {
+        Ok(steps) => Asked::Report(Report::Draw(Drawing { steps }, run_of(given))),
+        Err(text) => Asked::WrongValue(WrongValue::Range(text)),
+    }
+}
+
+// The name of an entry that the option of `explain` says.
+fn name_given(given: &ArgMatches<'_>) -> Option<u32>
+    ensures { IsNumberGiven (rows_of (found_of given.now)) (codes "name") 4_294_967_295 result }
+{
+    given.get_one::<u32>("name")
+}
+
+// The client that the option of `explain` says.
+fn client_given(given: &ArgMatches<'_>) -> Option<u16>
+    ensures { IsNumberGiven (rows_of (found_of given.now)) (codes "client") 65_535 result }
+{
+    given.get_one::<u16>("client")
+}
+
+// The words that the option of `explain` has, or the first of them with which no answer begins.
+fn answers_given<'a>(given: &ArgMatches<'a>) -> Result<Option<AnswerWords<'a>>, &'a str>
+    ensures words { IfOk result (λ answers. option_map (λ words. words.text.now) answers
+        ≡ first_of (codes "only") (rows_of (found_of given.now))) }
+    ensures known { IfOk result (λ _. unknown_answer (rows_of (found_of given.now)) ≡ None) }
+    ensures unknown { IfErr result
+        (λ word. unknown_answer (rows_of (found_of given.now)) ≡ Some word.now) }
+{
+    match given.get_str("only") {
+        Some(words) => match AnswerWords::parse(words) {
+            Ok(answers) => Ok(Some(answers)),
+            Err(word) => Err(word),
+        },
+        None => Ok(None),
+    }
+}
+
+// What `explain` with these options asks for.
+fn explanation_asked<'a>(given: &ArgMatches<'a>) -> Asked<'a>
+    ensures { AsksBy (codes "explain", rows_of (found_of given.now)) result }
+{
+    match answers_given(given) {
+        Ok(answers) => {
+            let selection = Selection {
+                name: name_given(given),
+                client: client_given(given),
+                answers,
+            };
+            Asked::Report(Report::Explain(selection, run_of(given)))
+        }
+        Err(word) => Asked::WrongValue(WrongValue::Answer(word)),
     }
 }
 
@@ -412,36 +635,40 @@ fn is_named(matches: &ArgMatches<'_>, name: &str) -> bool
     matches.subcommand_matches(name).is_some()
 }
 
-// The report that the words name.
-fn report_of(matches: &ArgMatches<'_>) -> Option<Report>
+// What the words ask for that name a report.
+fn report_asked<'a>(matches: &ArgMatches<'a>) -> Option<Asked<'a>>
     ensures some { IfSome result
-        (λ report. (found : Text × List Row)
+        (λ asked. (found : Text × List Row)
         × (subcommand_rows_of matches.now ≡ Some found)
         × IsReportName found.0
-        × IsAskedBy found report) }
+        × AsksBy found asked) }
     ensures none { IfNone result ((name : Text) → IsReportName name
         → option_map (λ found. found.0) (subcommand_rows_of matches.now) ≢ Some name) }
 {
     if let Some(given) = matches.subcommand_matches("trace") {
-        return Some(Report::Trace(form_of(given), run_of(given)));
+        return Some(Asked::Report(trace_of(given)));
     }
     if let Some(given) = matches.subcommand_matches("check") {
-        return Some(Report::Check(check_of(given)));
+        return Some(Asked::Report(Report::Check(check_of(given))));
     }
     if let Some(given) = matches.subcommand_matches("explain") {
-        return Some(Report::Explain(run_of(given)));
+        return Some(explanation_asked(given));
     }
     if let Some(given) = matches.subcommand_matches("draw") {
-        return Some(Report::Draw(run_of(given)));
+        return Some(drawing_asked(given));
     }
     if is_named(matches, "count") {
-        return Some(Report::Count);
+        return Some(Asked::Report(Report::Count));
     }
-    is_named(matches, "conform").then_some(Report::Conform)
+    if is_named(matches, "expand") {
+        return Some(Asked::Report(Report::Expand));
+    }
+    let given = matches.subcommand_matches("conform")?;
+    Some(Asked::Report(Report::Conform(conformance_of(given))))
 }
 
 /// What the words ask for, or what `clap` has to say.
-pub fn read_words<'a>(alloc: Global, words: &'a [String]) -> Result<Asked, Error>
+pub fn read_words<'a>(alloc: Global, words: &'a [String]) -> Result<Asked<'a>, Error>
     ensures range { IfOk result (λ asked. IsAskedInRange asked) }
     ensures asked { IfOk result (AsksFor (map string_bytes words.now)) }
     ensures faults { FailsBy (faults_of_words (map string_bytes words.now)) result }
@@ -454,8 +681,8 @@ pub fn read_words<'a>(alloc: Global, words: &'a [String]) -> Result<Asked, Error
     if let Some(given) = matches.subcommand_matches("threads") {
         return Ok(asked_by(workload_of(given)));
     }
-    if let Some(report) = report_of(&matches) {
-        return Ok(Asked::Report(report));
+    if let Some(asked) = report_asked(&matches) {
+        return Ok(asked);
     }
     if is_named(&matches, "serve") {
         return Ok(Asked::Serve);

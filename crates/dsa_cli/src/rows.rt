@@ -2,7 +2,7 @@
 
 ghost use Rattle.std.specs.Prelude.{◌≡◌, ◌≢◌, ◌⊎◌, ◌≤◌, ◌<◌, ◌+◌, ℕ, List, [], ◌∷◌, ◌++◌, All};
 ghost use Rattle.std.specs.Prelude.{length, codes, map, replicate, take, vec_len, slice_index_or};
-ghost use Rattle.std.specs.Prelude.{⊤, Option, Some, None, true, false};
+ghost use Rattle.std.specs.Prelude.{⊤, Option, Some, None, pos, true, false};
 ghost use Rattle.dsa_desc.specs.declared.Outcome.TheVariants.{Success};
 ghost use Rattle.dsa_regs.specs.declared.Caps.{Caps};
 ghost use Rattle.dsa_regs.specs.declared.Command.TheVariants.{EnableDevice, EnableWq};
@@ -31,15 +31,19 @@ ghost use Rattle.dsa_workers.specs.Workers.{receipts_in, RunsClient, RunsEngine}
 ghost use Rattle.dsa_cli.specs.declared.options.Workload.{Workload};
 ghost use Rattle.dsa_cli.specs.declared.options.Asked.TheVariants.{Scenario, Report, Serve};
 ghost use Rattle.dsa_cli.specs.declared.options.Asked.TheVariants.{Threads, HighThreshold};
+ghost use Rattle.dsa_cli.specs.declared.options.Asked.TheVariants.{WrongValue};
+ghost use Rattle.dsa_cli.specs.declared.options.WrongValue.TheVariants.{Answer, Range};
+ghost use Rattle.dsa_check.specs.declared.checking.CheckForm.TheVariants as check_form;
 ghost use Rattle.clap.specs.declared.error.kind.ErrorKind.TheVariants.{UnknownArgument};
 ghost use Rattle.clap.specs.declared.error.kind.ErrorKind.TheVariants.{InvalidSubcommand};
+ghost use Rattle.clap.specs.declared.error.kind.ErrorKind.TheVariants.{InvalidValue};
 ghost use Rattle.clap.specs.declared.error.kind.ErrorKind.TheVariants.{ValueValidation};
 ghost use Rattle.clap.specs.declared.error.kind.ErrorKind.TheVariants.{DisplayHelp, DisplayVersion};
-ghost use Rattle.dsa_cli.specs.declared.reports.Report.TheVariants.{Check, Explain, Trace, Count, Draw};
-ghost use Rattle.dsa_cli.specs.declared.reports.Report.TheVariants.{Conform};
+ghost use Rattle.dsa_cli.specs.declared.reports.Report.TheVariants.{Check, Expand, Explain, Trace, Count};
+ghost use Rattle.dsa_cli.specs.declared.reports.Report.TheVariants.{Chrome, Draw, Conform};
 ghost use Rattle.dsa_cli.specs.declared.reports.Run.TheVariants.{Own, Seen};
 ghost use Rattle.dsa_trace.specs.declared.form.Trace.{Trace as TraceForm};
-ghost use Rattle.dsa_trace.specs.declared.form.Trace.TheVariants.{Table, Json};
+ghost use Rattle.dsa_trace.specs.declared.form.Trace.TheVariants.{Table, Wide, Json};
 ghost use Rattle.dsa_scenario.specs.declared.faults.ScenarioFault.TheVariants.{BadCaps, Read};
 ghost use Rattle.dsa_scenario.specs.declared.faults.ScenarioFault.TheVariants.{BadStep};
 ghost use Rattle.dsa_scenario.specs.declared.faults.ScenarioFault.TheVariants.{TooLong, Write};
@@ -52,16 +56,21 @@ ghost use Rattle.dsa_scenario.specs.Faults.{fault_line};
 ghost use Rattle.dsa_scenario.specs.Watched.{has_refused, is_closed, IsSameWriter};
 ghost use Rattle.dsa_check.specs.Check.{IsCheckReportOf};
 ghost use Rattle.dsa_check.specs.Worked.{plain_check, strict_check};
-ghost use Rattle.dsa_conform.specs.{AsSeen.{IsMadeAsSeen}, Run.{IsConformance, IsUnread}};
+ghost use Rattle.dsa_conform.specs.{AsSeen.{IsMadeAsSeen}, Every.{IsConformanceOf}};
+ghost use Rattle.dsa_conform.specs.Run.{IsUnread};
 ghost use Rattle.std.specs.Str.Parse.{IsNumeral};
-ghost use Rattle.dsa_explain_lines.specs.Run.{IsExplanation, IsExplanationOf};
+ghost use Rattle.dsa_explain_lines.specs.Run.{IsExplanation};
+ghost use Rattle.dsa_chosen.specs.declared.words.AnswerWords.{AnswerWords};
+ghost use Rattle.dsa_chosen.specs.{Run.{AreChosen, AreChosenOf}, Worked.{all_lines, of_answers}};
+ghost use Rattle.dsa_chosen.specs.Worked.{of_name};
 ghost use Rattle.dsa_trace.specs.Lines.{trace_line_of_step};
 ghost use Rattle.dsa_trace.specs.Run.{IsTrace, IsTraceOf};
+ghost use Rattle.dsa_chrome.specs.Traces.{IsChromeTrace};
 ghost use Rattle.dsa_count.specs.Totals.{AreTotalsOfDocument};
-ghost use Rattle.dsa_draw.specs.Drawings.{IsDrawingOf, IsDrawnOf};
+ghost use Rattle.dsa_draw.specs.{Drawings.{IsDrawingOf}, Ranges.{all_steps}};
 ghost use Rattle.dsa_cli.specs.Reports.{IsReportBegun, IsReportCutShort, IsReportOf, IsReported};
 ghost use Rattle.dsa_cli.specs.Endings.{IsEnd, IsEndedBy, IsFaultTold, IsQuiet, IsStoppedBy};
-ghost use Rattle.dsa_cli.specs.Endings.{IsStoppedOnTheWay};
+ghost use Rattle.dsa_cli.specs.Endings.{IsRefusal, IsStoppedOnTheWay};
 ghost use Rattle.dsa_cli.specs.Endings.{IsUnwritten, IsWriteRefused};
 ghost use Rattle.dsa_cli.specs.Threads.{AreScriptsOf, AreTotalsOf, IsClientScript, HaveWorked};
 ghost use Rattle.dsa_cli.specs.Threads.{IsInRange, RanAsClient, RanAsEngine, Submits, caps_for};
@@ -70,19 +79,25 @@ ghost use Rattle.dsa_cli.specs.Threads.{queue_config, setup_steps, submission_of
 ghost use Rattle.dsa_cli.specs.Threads.{threads_fault_line, totals_text};
 ghost use Rattle.dsa_cli.specs.declared.threads.ThreadsFault.TheVariants as fault;
 ghost use Rattle.dsa_cli.specs.CommandLine.{AskNoInput, IsServeStopped, SayHighThreshold};
-ghost use Rattle.dsa_cli.specs.CommandLine.{high_threshold_text};
-ghost use Rattle.dsa_cli.specs.CommandLine.{SaysNumber};
+ghost use Rattle.dsa_cli.specs.CommandLine.{high_threshold_text, wrong_value_text};
+ghost use Rattle.dsa_cli.specs.CommandLine.{AsksBy, IsNumberGiven, IsSelectionOf};
+ghost use Rattle.dsa_cli.specs.CommandLine.{IsWrongIn, SaysNumber, range_asked, unknown_answer};
 ghost use Rattle.dsa_cli.specs.CommandLine.{AreNumbersOf, AreTotalsCutShort, AreTotalsWritten};
 ghost use Rattle.dsa_cli.specs.CommandLine.{AsksFor, IsAskedBy, IsMistaken, IsNumberOf};
 ghost use Rattle.dsa_cli.specs.CommandLine.{IsReportCut, IsReportLeft, IsReportName};
 ghost use Rattle.dsa_cli.specs.CommandLine.{IsReportWritten, IsServed, IsUnderstood, NameNothing};
 ghost use Rattle.dsa_cli.specs.CommandLine.{NameReport, NameServe, NameThreads, command_in};
-ghost use Rattle.dsa_cli.specs.CommandLine.{faults_of_words};
+ghost use Rattle.dsa_cli.specs.CommandLine.{faults_of_words, check_app, conform_app, draw_app};
+ghost use Rattle.dsa_cli.specs.CommandLine.{explain_app, threads_app, trace_app};
+ghost use Rattle.clap.specs.declared.builder.value_parser.ValueParser.TheVariants.{Signed};
 ghost use Rattle.dsa_cli.specs.Worked.{page_move_bytes, move_under, load, sized, threads_with};
 ghost use Rattle.dsa_cli.specs.Worked.{option_row, trace_rows, two_retries};
 ghost use Rattle.dsa_cli.specs.Worked.{client_seats_after};
 ghost use Rattle.dsa_cli.specs.Worked.{engine_seats_after, value_in, json_trace, seen_json_trace};
-ghost use Rattle.dsa_cli.specs.Worked.{words_with_seen, strict_words};
+ghost use Rattle.dsa_cli.specs.Worked.{words_with_seen, strict_words, explain_with};
+ghost use Rattle.dsa_cli.specs.Worked.{explain_rows, chosen_words, lines_of_one_entry, lent_text};
+ghost use Rattle.dsa_cli.specs.Worked.{check_in, check_rows, comparison, draw_rows, drawing_of};
+ghost use Rattle.dsa_cli.specs.Worked.{whole_drawing};
 
 /// What the words may be: none, or the command `threads` with its options.
 #[tactic(auto, unfolding(clap::proofs::OnLiterals::clap_on_literals))]
@@ -103,10 +118,19 @@ pub fn words_understood()
         (codes "explain" ∷ codes "trace" ∷ codes "draw" ∷ codes "count" ∷ [])
         ≡ [] ∷ [] ∷ [] ∷ (UnknownArgument ∷ []) ∷ [] }
     ensures seen_alone { faults_of_words (codes "--seen" ∷ []) ≡ UnknownArgument ∷ [] }
+    ensures chosen { faults_of_words chosen_words ≡ [] }
+    ensures chosen_of_a_trace { map
+        (λ option. faults_of_words (codes "trace" ∷ option ∷ codes "3" ∷ []))
+        (codes "--name" ∷ codes "--client" ∷ codes "--only" ∷ codes "--which" ∷ [])
+        ≡ replicate 4 (UnknownArgument ∷ []) }
+    ensures no_words { faults_of_words (codes "explain" ∷ codes "--only" ∷ [])
+        ≡ InvalidValue ∷ [] }
     ensures seen_json_trace { faults_of_words seen_json_trace ≡ [] }
     ensures explain { faults_of_words (codes "explain" ∷ []) ≡ [] }
     ensures explains { command_in (codes "explain" ∷ []) ≡ Some (codes "explain") }
     ensures count { faults_of_words (codes "count" ∷ []) ≡ [] }
+    ensures expand { faults_of_words (codes "expand" ∷ []) ≡ [] }
+    ensures expands { command_in (codes "expand" ∷ []) ≡ Some (codes "expand") }
     ensures counts { command_in (codes "count" ∷ []) ≡ Some (codes "count") }
     ensures draw { faults_of_words (codes "draw" ∷ []) ≡ [] }
     ensures drawing { command_in (codes "draw" ∷ []) ≡ Some (codes "draw") }
@@ -131,6 +155,36 @@ pub fn words_understood()
         ≡ UnknownArgument ∷ [] }
 {}
 
+/// The options of each command, and the numbers that they take.
+#[tactic(auto, unfolding(clap::proofs::OnLiterals::clap_on_literals))]
+pub fn options_of_commands()
+    ensures names { map {B = Text × List Text}
+        (λ command. (command.top.name, map (λ option. option.id) command.top.rules))
+        (check_app ∷ explain_app ∷ trace_app ∷ draw_app ∷ conform_app ∷ threads_app ∷ [])
+        ≡ (codes "check", codes "json" ∷ codes "source" ∷ codes "color" ∷ codes "strict" ∷ [])
+        ∷ (codes "explain", codes "name" ∷ codes "client" ∷ codes "only" ∷ codes "seen" ∷ [])
+        ∷ (codes "trace", codes "wide" ∷ codes "json" ∷ codes "chrome" ∷ codes "seen" ∷ [])
+        ∷ (codes "draw", codes "steps" ∷ codes "seen" ∷ []) ∷ (codes "conform", codes "all" ∷ [])
+        ∷ (
+          codes "threads",
+          codes "clients" ∷ codes "engines" ∷ codes "each" ∷ codes "turns"
+              ∷ codes "size" ∷ codes "threshold" ∷ codes "slots" ∷ codes "buffers" ∷ [],
+        ) ∷ [] }
+    ensures explain { map (λ option. option.parser) explain_app.top.rules
+        ≡ Some (Signed (pos 0) (pos 4_294_967_295)) ∷ Some (Signed (pos 0) (pos 65_535)) ∷ None
+        ∷ None ∷ [] }
+    ensures threads { map (λ option. option.parser) threads_app.top.rules
+        ≡ Some (Signed (pos 1) (pos 16)) ∷ Some (Signed (pos 1) (pos 8))
+        ∷ Some (Signed (pos 1) (pos 1_000)) ∷ Some (Signed (pos 1) (pos 40_000))
+        ∷ Some (Signed (pos 1) (pos 1_024)) ∷ Some (Signed (pos 1) (pos 1_024))
+        ∷ Some (Signed (pos 1) (pos 16)) ∷ Some (Signed (pos 4) (pos 255)) ∷ [] }
+    ensures defaults { map (λ option. option.defaults) threads_app.top.rules
+        ≡ (codes "2" ∷ []) ∷ (codes "2" ∷ []) ∷ (codes "100" ∷ []) ∷ (codes "10000" ∷ [])
+        ∷ (codes "16" ∷ []) ∷ (codes "8" ∷ []) ∷ (codes "4" ∷ []) ∷ (codes "32" ∷ []) ∷ [] }
+    ensures values { map (λ option. option.value_names) explain_app.top.rules
+        ≡ 1 ∷ 1 ∷ 1 ∷ 0 ∷ [] }
+{}
+
 /// The numbers of the options, where they are not given and where they are.
 #[tactic(auto, unfolding(clap::proofs::OnLiterals::clap_on_literals))]
 pub fn option_values()
@@ -144,6 +198,13 @@ pub fn option_values()
     ensures buffers { value_in (codes "threads" ∷ []) (codes "buffers") ≡ Some (codes "32") }
     ensures given { value_in (threads_with (codes "--each") (codes "7")) (codes "each")
         ≡ Some (codes "7") }
+    ensures chosen { map (value_in chosen_words)
+        (codes "name" ∷ codes "client" ∷ codes "only" ∷ codes "seen" ∷ [])
+        ≡ Some (codes "3") ∷ Some (codes "2") ∷ Some (codes "retry,idle") ∷ Some (codes "true")
+        ∷ [] }
+    ensures not_chosen { map (value_in (codes "explain" ∷ []))
+        (codes "name" ∷ codes "client" ∷ codes "only" ∷ codes "seen" ∷ [])
+        ≡ None ∷ None ∷ None ∷ Some (codes "false") ∷ [] }
     ensures other { value_in (threads_with (codes "--each") (codes "7")) (codes "turns")
         ≡ Some (codes "10000") }
 {}
@@ -175,6 +236,12 @@ pub fn option_bounds()
     ensures buffers { map (λ n. faults_of_words (threads_with (codes "--buffers") n))
         (codes "3" ∷ codes "4" ∷ codes "255" ∷ codes "256" ∷ [])
         ≡ (ValueValidation ∷ []) ∷ [] ∷ [] ∷ (ValueValidation ∷ []) ∷ [] }
+    ensures names { map (λ n. faults_of_words (explain_with (codes "--name") n))
+        (codes "0" ∷ codes "4294967295" ∷ codes "4294967296" ∷ codes "one" ∷ [])
+        ≡ [] ∷ [] ∷ (ValueValidation ∷ []) ∷ (ValueValidation ∷ []) ∷ [] }
+    ensures client_numbers { map (λ n. faults_of_words (explain_with (codes "--client") n))
+        (codes "0" ∷ codes "65535" ∷ codes "65536" ∷ codes "" ∷ [])
+        ≡ [] ∷ [] ∷ (ValueValidation ∷ []) ∷ (ValueValidation ∷ []) ∷ [] }
     ensures no_numbers { map (λ n. faults_of_words (threads_with (codes "--clients") n))
         (codes "" ∷ codes "two" ∷ codes "1.0" ∷ [])
         ≡ (ValueValidation ∷ []) ∷ (ValueValidation ∷ []) ∷ (ValueValidation ∷ []) ∷ [] }
@@ -428,21 +495,24 @@ pub fn dialogue_served()
 /// A report that was all written, and one of which only the first bytes were.
 pub fn reports_written()
     ensures all { (bytes text : List ℕ)
-        → IsConformance bytes (Some BadCaps) text → length bytes ≤ 1_048_576
-        → IsReported Conform (Some BadCaps) (Some bytes) (Some []) (Some (codes "k"))
+        → IsConformanceOf false bytes (Some BadCaps) text → length bytes ≤ 1_048_576
+        → IsReported (Conform (comparison false)) (Some BadCaps) (Some bytes) (Some [])
+        (Some (codes "k"))
         (Some (codes "k" ++ text)) }
     ensures first_bytes { (bytes text : List ℕ)
-        → IsConformance bytes (Some BadCaps) text → length bytes ≤ 1_048_576 → 3 < length text
-        → IsReportCutShort Conform (Some bytes) (Some []) (Some (codes "k"))
+        → IsConformanceOf false bytes (Some BadCaps) text → length bytes ≤ 1_048_576
+        → 3 < length text
+        → IsReportCutShort (Conform (comparison false)) (Some bytes) (Some []) (Some (codes "k"))
         (Some (codes "k" ++ take 3 text)) }
-    ensures drawing { (bytes text : List ℕ) → IsDrawingOf bytes text → length bytes ≤ 1_048_576
+    ensures drawing { (bytes text : List ℕ)
+        → IsDrawingOf all_steps bytes text → length bytes ≤ 1_048_576
         → IsReportWritten (codes "draw", option_row (codes "seen") (codes "false")) None
         (Some bytes) (Some []) (Some (codes "k")) (Some (codes "k" ++ text)) }
     ensures reported { (found : Text × List Row) (had left held holds : Option (List ℕ))
         (is : IsReportWritten found None had left held holds)
         → IsAskedBy found is.0 × IsReported is.0 None had left held holds }
     ensures drawing_cut { (bytes text : List ℕ)
-        → IsDrawingOf bytes text → length bytes ≤ 1_048_576 → 3 < length text
+        → IsDrawingOf all_steps bytes text → length bytes ≤ 1_048_576 → 3 < length text
         → IsReportCut (codes "draw", option_row (codes "seen") (codes "false")) (Some bytes)
         (Some []) (Some (codes "k"))
         (Some (codes "k" ++ take 3 text)) }
@@ -460,44 +530,127 @@ pub fn names_of_reports()
     ensures count { IsReportName (codes "count") }
     ensures draw { IsReportName (codes "draw") }
     ensures conform { IsReportName (codes "conform") }
+    ensures expand { IsReportName (codes "expand") }
     ensures serve { ¬ IsReportName (codes "serve") }
-    ensures asks_check { IsAskedBy (codes "check", option_row (codes "strict") (codes "false"))
-        (Check plain_check) }
-    ensures asks_strict_check { IsAskedBy
-        (codes "check", option_row (codes "strict") (codes "true"))
+    ensures asks_check { IsAskedBy (codes "check", check_rows []) (Check plain_check) }
+    ensures asks_strict_check { IsAskedBy (codes "check", check_rows (codes "strict"))
         (Check strict_check) }
-    ensures no_strict_check { ¬ IsAskedBy
-        (codes "check", option_row (codes "strict") (codes "false"))
-        (Check strict_check) }
-    ensures no_plain_check { ¬ IsAskedBy
-        (codes "check", option_row (codes "strict") (codes "true"))
+    ensures asks_json_check { IsAskedBy (codes "check", check_rows (codes "json"))
+        (Check (check_in check_form.Json)) }
+    ensures asks_source { IsAskedBy (codes "check", check_rows (codes "source"))
+        (Check (check_in (check_form.Source false))) }
+    ensures asks_color { IsAskedBy (codes "check", check_rows (codes "color"))
+        (Check (check_in (check_form.Source true))) }
+    ensures no_source { ¬ IsAskedBy (codes "check", check_rows (codes "source"))
+        (Check (check_in check_form.Lines)) }
+    ensures no_strict_check { ¬ IsAskedBy (codes "check", check_rows []) (Check strict_check) }
+    ensures no_plain_check { ¬ IsAskedBy (codes "check", check_rows (codes "strict"))
         (Check plain_check) }
     ensures asks_explain { IsAskedBy (codes "explain", option_row (codes "seen") (codes "false"))
-        (Explain Own) }
+        (Explain all_lines Own) }
     ensures asks_seen { IsAskedBy (codes "explain", option_row (codes "seen") (codes "true"))
-        (Explain Seen) }
+        (Explain all_lines Seen) }
     ensures no_own_run { ¬ IsAskedBy (codes "explain", option_row (codes "seen") (codes "true"))
-        (Explain Own) }
+        (Explain all_lines Own) }
     ensures no_seen_run { ¬ IsAskedBy (codes "draw", option_row (codes "seen") (codes "false"))
-        (Draw Seen) }
+        (Draw whole_drawing Seen) }
     ensures asks_count { IsAskedBy (codes "count", []) Count }
+    ensures asks_expand { IsAskedBy (codes "expand", []) Expand }
+    ensures no_expand { ¬ IsAskedBy (codes "expand", []) Count }
     ensures asks_draw { IsAskedBy (codes "draw", option_row (codes "seen") (codes "false"))
-        (Draw Own) }
-    ensures asks_conform { IsAskedBy (codes "conform", []) Conform }
-    ensures asks_trace { IsAskedBy (codes "trace", trace_rows (codes "false") (codes "false"))
+        (Draw whole_drawing Own) }
+    ensures asks_steps { IsAskedBy (codes "draw", draw_rows (codes "3..9") (codes "false"))
+        (Draw (drawing_of 3 10) Own) }
+    ensures no_other_steps { ¬ IsAskedBy (codes "draw", draw_rows (codes "3..9") (codes "false"))
+        (Draw whole_drawing Own) }
+    ensures asks_conform { IsAskedBy (codes "conform", option_row (codes "all") (codes "false"))
+        (Conform (comparison false)) }
+    ensures asks_all { IsAskedBy (codes "conform", option_row (codes "all") (codes "true"))
+        (Conform (comparison true)) }
+    ensures asks_wide { IsAskedBy (codes "trace", trace_rows (codes "wide") (codes "false"))
+        (Trace Wide Own) }
+    ensures asks_trace { IsAskedBy (codes "trace", trace_rows [] (codes "false"))
         (Trace Table Own) }
-    ensures asks_json { IsAskedBy (codes "trace", trace_rows (codes "true") (codes "false"))
+    ensures asks_json { IsAskedBy (codes "trace", trace_rows (codes "json") (codes "false"))
         (Trace Json Own) }
-    ensures asks_seen_json { IsAskedBy (codes "trace", trace_rows (codes "true") (codes "true"))
+    ensures asks_seen_json { IsAskedBy (codes "trace", trace_rows (codes "json") (codes "true"))
         (Trace Json Seen) }
-    ensures no_table { ¬ IsAskedBy (codes "trace", trace_rows (codes "true") (codes "false"))
+    ensures asks_chrome { IsAskedBy (codes "trace", trace_rows (codes "chrome") (codes "true"))
+        (Chrome Seen) }
+    ensures no_chrome { ¬ IsAskedBy (codes "trace", trace_rows (codes "json") (codes "false"))
+        (Chrome Own) }
+    ensures no_table { ¬ IsAskedBy (codes "trace", trace_rows (codes "json") (codes "false"))
         (Trace Table Own) }
-    ensures other_report { ¬ IsAskedBy (codes "draw", trace_rows (codes "false") (codes "false"))
+    ensures other_report { ¬ IsAskedBy (codes "draw", trace_rows [] (codes "false"))
         (Trace Table Own) }
-    ensures other_form { ¬ IsAskedBy (codes "trace", trace_rows (codes "false") (codes "false"))
+    ensures other_form { ¬ IsAskedBy (codes "trace", trace_rows [] (codes "false"))
         (Trace Json Own) }
-    ensures other_run { ¬ IsAskedBy (codes "trace", trace_rows (codes "true") (codes "true"))
+    ensures other_run { ¬ IsAskedBy (codes "trace", trace_rows (codes "json") (codes "true"))
         (Trace Json Own) }
+{}
+
+/// The lines that the options of `explain` choose, and words with which no answer begins.
+#[tactic(auto, unfolding(clap::proofs::OnLiterals::clap_on_literals))]
+pub fn lines_chosen()
+    ensures asked { IsAskedBy (
+      codes "explain",
+      explain_rows (codes "3") (codes "2")
+          (codes "retry,idle") (codes "true"),
+    ) (Explain lines_of_one_entry Seen) }
+    ensures these { (name client : Option ℕ) (answers : Option AnswerWords)
+        → IsSelectionOf (option_row (codes "name") (codes "7"))
+        (record { name = name; client = client; answers = answers })
+        → (name ≡ Some 7) × (client ≡ None) × (answers ≡ None) }
+    ensures of_client { (name client : Option ℕ) (answers : Option AnswerWords)
+        → IsSelectionOf (option_row (codes "client") (codes "65535"))
+        (record { name = name; client = client; answers = answers })
+        → (name ≡ None) × (client ≡ Some 65_535) × (answers ≡ None) }
+    ensures most { (name client : Option ℕ) (answers : Option AnswerWords)
+        → IsSelectionOf (option_row (codes "name") (codes "4294967295"))
+        (record { name = name; client = client; answers = answers })
+        → name ≡ Some 4_294_967_295 }
+    ensures no_words { ¬ IsSelectionOf (option_row (codes "only") (codes "idle")) all_lines }
+    ensures other_words { ¬ IsSelectionOf (option_row (codes "only") (codes "idle"))
+        (of_answers (codes "full")) }
+    ensures no_such_words { ¬ IsSelectionOf (option_row (codes "only") (codes "idel"))
+        (of_answers (codes "idel")) }
+    ensures past_bounds { IsNumberGiven (option_row (codes "client") (codes "65536"))
+        (codes "client") 65_535 (Some 7) }
+    ensures unknown { map unknown_answer
+        (option_row (codes "only") (codes "retry,idel") ∷ option_row (codes "only") (codes "idle")
+        ∷ option_row (codes "onl") (codes "idel") ∷ [] ∷ [])
+        ≡ Some (codes "idel") ∷ None ∷ None ∷ None ∷ [] }
+    ensures unknown_asked { IsWrongIn (
+      codes "explain",
+      option_row (codes "only")
+          (codes "gone,on"),
+    ) (Answer (lent_text (codes "on"))) }
+    ensures of_no_drawing { ¬ IsWrongIn (
+      codes "draw",
+      option_row (codes "only")
+          (codes "gone,on"),
+    ) (Answer (lent_text (codes "on"))) }
+    ensures no_range { IsWrongIn (codes "draw", draw_rows (codes "9..3") (codes "false"))
+        (Range (lent_text (codes "9..3"))) }
+    ensures a_range { ¬ IsWrongIn (codes "draw", draw_rows (codes "3..9") (codes "false"))
+        (Range (lent_text (codes "3..9"))) }
+    ensures ranges { map (λ steps. range_asked (draw_rows steps (codes "false")))
+        (codes "3..9" ∷ codes "3" ∷ codes "9..3" ∷ [])
+        ≡ Some (drawing_of 3 10).steps ∷ None ∷ None ∷ [] }
+    ensures by_expand { AsksBy (codes "expand", []) (Report Expand) }
+    ensures by_report { AsksBy (codes "count", []) (Report Count) }
+    ensures by_unknown { AsksBy (codes "explain", option_row (codes "only") (codes "gone,on"))
+        (WrongValue (Answer (lent_text (codes "on")))) }
+    ensures by_nothing { ¬ AsksBy (codes "serve", []) Serve }
+    ensures said_of_steps { wrong_value_text (Range (lent_text (codes "9..3")))
+        ≡ codes "error: invalid value '9..3' for '--steps <A..B>': "
+        ++ codes "a range as 3..9, 3.. or ..9 is wanted\n\nFor more information, try '--help'.\n" }
+    ensures said { wrong_value_text (Answer (lent_text (codes "idel")))
+        ≡ codes "error: invalid value 'idel' for '--only <WORDS>'\n  [possible values: accepted, "
+        ++ codes "retry, dropped, taken, idle, fetched, no-batch, all-fetched, started, "
+        ++ codes "fence-wait, no-buffers, abandoned, done, not-ready, gone, ended, active, "
+        ++ codes "refused, finished, nothing, written, cleared, full]"
+        ++ codes "\n\nFor more information, try '--help'.\n" }
 {}
 
 /// What the options of `threads` say: numbers between bounds, the bounds among them.
@@ -607,6 +760,12 @@ pub fn endings()
         × IsSameWriter err err'
         × IsQuiet status out' err err'
         × ((status ≡ 0) ⊎ (status ≡ 1)) }
+    ensures refused_with { (old new : WatchedWriter (List ℕ)) → has_refused new ≡ false
+        → IsRefusal 2 (λ held. Some held) old new (codes "x")
+        → new.writer.now ≡ old.writer.now ++ codes "x" }
+    ensures refusal { (status : ℕ) (old new : WatchedWriter (List ℕ))
+        → IsRefusal status (λ held. Some held) old new (codes "x")
+        → (status ≡ 2) × IsSameWriter old new }
     ensures ended { (out : WatchedWriter ℕ) (old new : WatchedWriter (List ℕ))
         → is_closed out ≡ false → has_refused new ≡ false
         → IsEndedBy (λ fault. fault ≡ TooLong) out (λ held. Some held) old new
@@ -637,36 +796,44 @@ pub fn stops()
 /// of that run it is a step that says no answer.
 pub fn reports_of_documents()
     ensures no_explanation { (bytes text : List ℕ)
-        → ¬ IsReportOf (Explain Own) bytes (Some BadCaps) text }
+        → ¬ IsReportOf (Explain all_lines Own) bytes (Some BadCaps) text }
     ensures no_seen_explanation { (bytes text : List ℕ)
-        → ¬ IsReportOf (Explain Seen) bytes (Some BadCaps) text }
+        → ¬ IsReportOf (Explain all_lines Seen) bytes (Some BadCaps) text }
     ensures no_trace { (bytes text : List ℕ)
         → ¬ IsReportOf (Trace Json Own) bytes (Some BadCaps) text }
+    ensures no_chrome_trace { (bytes text : List ℕ)
+        → ¬ IsReportOf (Chrome Own) bytes (Some BadCaps) text }
     ensures no_totals { (bytes text : List ℕ) → ¬ IsReportOf Count bytes (Some BadCaps) text }
     ensures no_drawing { (bytes text : List ℕ)
-        → ¬ IsReportOf (Draw Own) bytes (Some BadCaps) text }
+        → ¬ IsReportOf (Draw whole_drawing Own) bytes (Some BadCaps) text }
     ensures check { (bytes text : List ℕ)
         → IsReportOf (Check plain_check) bytes (Some BadCaps) text
         → IsCheckReportOf plain_check bytes (Some BadCaps) text }
     ensures explanation { (bytes text : List ℕ)
-        → IsReportOf (Explain Own) bytes None text → IsExplanation bytes text }
+        → IsReportOf (Explain all_lines Own) bytes None text → IsExplanation bytes text }
+    ensures chosen { (bytes text : List ℕ)
+        → IsReportOf (Explain (of_name 3) Own) bytes None text → AreChosen (of_name 3) bytes text }
     ensures seen_explanation { (bytes text : List ℕ)
-        → IsReportOf (Explain Seen) bytes None text → IsMadeAsSeen IsExplanationOf bytes None text }
+        → IsReportOf (Explain (of_name 3) Seen) bytes None text
+        → IsMadeAsSeen (AreChosenOf (of_name 3)) bytes None text }
     ensures trace { (bytes text : List ℕ)
         → IsReportOf (Trace Json Own) bytes None text → IsTrace Json bytes text }
     ensures seen_trace { (bytes text : List ℕ)
         → IsReportOf (Trace Json Seen) bytes None text
         → IsMadeAsSeen (IsTraceOf Json) bytes None text }
+    ensures chrome_trace { (bytes text : List ℕ)
+        → IsReportOf (Chrome Own) bytes None text → IsChromeTrace bytes text }
     ensures totals { (bytes text : List ℕ)
         → IsReportOf Count bytes None text → AreTotalsOfDocument bytes text }
     ensures drawing { (bytes text : List ℕ)
-        → IsReportOf (Draw Own) bytes None text → IsDrawingOf bytes text }
+        → IsReportOf (Draw (drawing_of 3 10) Own) bytes None text
+        → IsDrawingOf (drawing_of 3 10).steps bytes text }
     ensures seen_drawing { (bytes text : List ℕ)
-        → IsReportOf (Draw Seen) bytes (Some (BadStep 7)) text
+        → IsReportOf (Draw whole_drawing Seen) bytes (Some (BadStep 7)) text
         → IsUnread bytes 7 × (text ≡ []) }
     ensures conformance { (bytes text : List ℕ)
-        → IsReportOf Conform bytes (Some BadCaps) text
-        → IsConformance bytes (Some BadCaps) text }
+        → IsReportOf (Conform (comparison true)) bytes (Some BadCaps) text
+        → IsConformanceOf true bytes (Some BadCaps) text }
 {}
 
 /// What the words name, where nothing is wrong with them; to ask for help counts too.
@@ -701,26 +868,50 @@ pub fn asked()
         (Threads (load 2 3 100 10_000)) }
     ensures trace { AsksFor (codes "trace" ∷ []) (Report (Trace Table Own)) }
     ensures json { AsksFor json_trace (Report (Trace Json Own)) }
+    ensures chrome { AsksFor (codes "trace" ∷ codes "--chrome" ∷ []) (Report (Chrome Own)) }
+    ensures chrome_and_json { AsksFor (codes "trace" ∷ codes "--json" ∷ codes "--chrome" ∷ [])
+        (Report (Chrome Own)) }
     ensures seen_trace { AsksFor (words_with_seen (codes "trace")) (Report (Trace Table Seen)) }
     ensures seen_json { AsksFor seen_json_trace (Report (Trace Json Seen)) }
     ensures check { AsksFor (codes "check" ∷ []) (Report (Check plain_check)) }
     ensures strict_check { AsksFor strict_words (Report (Check strict_check)) }
     ensures no_plain_check { ¬ AsksFor strict_words (Report (Check plain_check)) }
     ensures no_strict_check { ¬ AsksFor (codes "check" ∷ []) (Report (Check strict_check)) }
-    ensures explain { AsksFor (codes "explain" ∷ []) (Report (Explain Own)) }
-    ensures seen_explain { AsksFor (words_with_seen (codes "explain")) (Report (Explain Seen)) }
-    ensures no_own_explain { ¬ AsksFor (words_with_seen (codes "explain")) (Report (Explain Own)) }
+    ensures explain { AsksFor (codes "explain" ∷ []) (Report (Explain all_lines Own)) }
+    ensures seen_explain { AsksFor (words_with_seen (codes "explain"))
+        (Report (Explain all_lines Seen)) }
+    ensures no_own_explain { ¬ AsksFor (words_with_seen (codes "explain"))
+        (Report (Explain all_lines Own)) }
+    ensures chosen { AsksFor chosen_words (Report (Explain lines_of_one_entry Seen)) }
+    ensures no_lines_chosen { ¬ AsksFor chosen_words (Report (Explain all_lines Seen)) }
+    ensures unknown_answer { AsksFor (explain_with (codes "--only") (codes "idle,idel"))
+        (WrongValue (Answer (lent_text (codes "idel")))) }
+    ensures known_answer { ¬ AsksFor (explain_with (codes "--only") (codes "idle"))
+        (WrongValue (Answer (lent_text (codes "idle")))) }
     ensures count { AsksFor (codes "count" ∷ []) (Report Count) }
-    ensures draw { AsksFor (codes "draw" ∷ []) (Report (Draw Own)) }
-    ensures seen_draw { AsksFor (words_with_seen (codes "draw")) (Report (Draw Seen)) }
-    ensures no_seen_draw { ¬ AsksFor (codes "draw" ∷ []) (Report (Draw Seen)) }
-    ensures conform { AsksFor (codes "conform" ∷ []) (Report Conform) }
+    ensures draw { AsksFor (codes "draw" ∷ []) (Report (Draw whole_drawing Own)) }
+    ensures seen_draw { AsksFor (words_with_seen (codes "draw"))
+        (Report (Draw whole_drawing Seen)) }
+    ensures no_seen_draw { ¬ AsksFor (codes "draw" ∷ [])
+        (Report (Draw whole_drawing Seen)) }
+    ensures steps { AsksFor (codes "draw" ∷ codes "--steps" ∷ codes "3..9" ∷ [])
+        (Report (Draw (drawing_of 3 10) Own)) }
+    ensures no_steps { AsksFor (codes "draw" ∷ codes "--steps" ∷ codes "9..3" ∷ [])
+        (WrongValue (Range (lent_text (codes "9..3")))) }
+    ensures conform { AsksFor (codes "conform" ∷ []) (Report (Conform (comparison false))) }
+    ensures conform_all { AsksFor (codes "conform" ∷ codes "--all" ∷ [])
+        (Report (Conform (comparison true))) }
+    ensures wide { AsksFor (codes "trace" ∷ codes "--wide" ∷ []) (Report (Trace Wide Own)) }
+    ensures json_check { AsksFor (codes "check" ∷ codes "--json" ∷ [])
+        (Report (Check (check_in check_form.Json))) }
+    ensures colored_check { AsksFor (codes "check" ∷ codes "--source" ∷ codes "--color" ∷ [])
+        (Report (Check (check_in (check_form.Source true)))) }
     ensures serve { AsksFor (codes "serve" ∷ []) Serve }
     ensures draw_is_no_scenario { ¬ AsksFor (codes "draw" ∷ []) Scenario }
     ensures serve_is_no_scenario { ¬ AsksFor (codes "serve" ∷ []) Scenario }
     ensures other_report { ¬ AsksFor (codes "draw" ∷ [])
         (Report (Check plain_check)) }
-    ensures nothing_is_no_report { ¬ AsksFor [] (Report (Draw Own)) }
+    ensures nothing_is_no_report { ¬ AsksFor [] (Report (Draw whole_drawing Own)) }
     ensures nothing_is_no_threads { ¬ AsksFor [] (Threads (load 2 2 100 10_000)) }
     ensures other_numbers { ¬ AsksFor (threads_with (codes "--engines") (codes "3"))
         (Threads (load 2 7 100 10_000)) }
@@ -730,6 +921,7 @@ pub fn asked()
         (HighThreshold (record (load 2 2 100 10_000) { threshold = 16 })) }
     ensures mistaken { IsMistaken (codes "scenario" ∷ []) }
     ensures mistaken_threshold { IsMistaken (threads_with (codes "--threshold") (codes "17")) }
+    ensures mistaken_answer { IsMistaken (explain_with (codes "--only") (codes "idel")) }
     ensures help { ¬ IsMistaken (codes "--help" ∷ []) }
     ensures version { ¬ IsMistaken (codes "--version" ∷ []) }
     ensures none { ¬ IsMistaken [] }

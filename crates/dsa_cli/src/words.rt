@@ -6,7 +6,7 @@ ghost use Rattle.std.specs.Prelude.{IfSome};
 ghost use Rattle.std.specs.Io.KnownBytes.{Appends};
 ghost use Rattle.clap.specs.Words.{Row, Text, kind_of};
 ghost use Rattle.dsa_shared.specs.declared.settle.Totals.{Totals};
-ghost use Rattle.dsa_cli.specs.declared.options.Workload.{Workload};
+ghost use Rattle.dsa_cli.specs.declared.options.{Workload.{Workload}, WrongValue.{WrongValue}};
 ghost use Rattle.dsa_scenario.specs.declared.faults.ScenarioFault.{ScenarioFault};
 ghost use Rattle.dsa_scenario.specs.Faults.{fault_line};
 ghost use Rattle.dsa_scenario.specs.Scenario.{IsRenderingOf, IsTextWritten, IsTextCutShort};
@@ -19,20 +19,23 @@ ghost use Rattle.dsa_cli.specs.CommandLine.{IsMistaken, IsUnderstood, AskNoInput
 ghost use Rattle.dsa_cli.specs.CommandLine.{NameNothing, NameThreads, NameReport, NameServe};
 ghost use Rattle.dsa_cli.specs.CommandLine.{IsServed, IsServeStopped};
 ghost use Rattle.dsa_cli.specs.CommandLine.{SayHighThreshold, high_threshold_text};
+ghost use Rattle.dsa_cli.specs.CommandLine.{AskWrongValue, wrong_value_text};
+ghost use Rattle.dsa_cli.specs.CommandLine.{unknown_answer_text, unknown_range_text};
 ghost use Rattle.dsa_cli.specs.CommandLine.{IsReportWritten, IsReportCut, IsReportLeft};
 ghost use Rattle.dsa_cli.specs.CommandLine.{AreTotalsWritten, AreTotalsCutShort};
 ghost use Rattle.dsa_cli.specs.Endings.{IsEnd, IsEndedBy, IsFaultTold, IsQuiet, IsWriteRefused};
-ghost use Rattle.dsa_cli.specs.Endings.{IsStoppedBy, IsStoppedOnTheWay, IsUnwritten};
+ghost use Rattle.dsa_cli.specs.Endings.{IsRefusal, IsStoppedBy, IsStoppedOnTheWay};
+ghost use Rattle.dsa_cli.specs.Endings.{IsUnwritten};
 ghost use Rattle.dsa_cli.specs.Reports.{IsReported, IsReportCutShort, IsReportBegun};
 
-use crate::options::{Asked, Workload, read_words};
+use crate::options::{Asked, Workload, WrongValue, read_words};
 use crate::reports::{Report, Run};
 use crate::threads::run_workload;
 use clap::Error;
 use clap::error::ErrorKind;
-use dsa_conform::{AsSeen, Conformance};
-use dsa_draw::Drawing;
-use dsa_explain_lines::Explanation;
+use dsa_chosen::Chosen;
+use dsa_chrome::ChromeTrace;
+use dsa_conform::AsSeen;
 use dsa_scenario::{PlainRun, Render, ScenarioFault, WatchedWriter, render_input, stream_input};
 use dsa_serve::serve_watched;
 use std::alloc::Global;
@@ -137,19 +140,19 @@ fn write_text<D: Render, R: Read, O: Write, E: Write>(
 // Writes the report on the document that the reader gives, and the line of the fault.
 fn write_report<R: Read, O: Write, E: Write>(
     alloc: Global,
-    report: Report,
+    report: Report<'_>,
     reader: &mut R,
     out: &mut WatchedWriter<'_, O>,
     err: &mut WatchedWriter<'_, E>,
 ) -> u8
     ensures done { result ≡ 0
-        → IsReported report None (R.remaining reader.old) (R.remaining reader.new)
+        → IsReported report.entry None (R.remaining reader.old) (R.remaining reader.new)
         (watched_contents O.contents out.old) (watched_contents O.contents out.new) }
     ensures failed { result ≡ 1
-        → IsEndedBy (λ fault. IsReported report (Some fault)
+        → IsEndedBy (λ fault. IsReported report.entry (Some fault)
         (R.remaining reader.old) (R.remaining reader.new)
         (watched_contents O.contents out.old) (watched_contents O.contents out.new)
-        ⊎ IsStoppedOnTheWay fault (IsReportCutShort report) (IsReportBegun report)
+        ⊎ IsStoppedOnTheWay fault (IsReportCutShort report.entry) (IsReportBegun report.entry)
         (R.remaining reader.old) (R.remaining reader.new)
         (watched_contents O.contents) out.old out.new
         × IsWriteRefused fault out.new)
@@ -158,10 +161,13 @@ fn write_report<R: Read, O: Write, E: Write>(
 {
     match report {
         Report::Check(check) => write_text(alloc, &check, reader, out, err),
-        Report::Explain(run) => match run {
-            Run::Own => write_text(alloc, &Explanation, reader, out, err),
-            Run::Seen => write_text(alloc, &AsSeen { what: Explanation }, reader, out, err),
-        },
+        Report::Explain(selection, run) => {
+            let chosen = Chosen { selection };
+            match run {
+                Run::Own => write_text(alloc, &chosen, reader, out, err),
+                Run::Seen => write_text(alloc, &AsSeen { what: chosen }, reader, out, err),
+            }
+        }
         Report::Trace(form, run) => match run {
             Run::Own => match stream_input(alloc, &form, reader, out) {
                 Ok(document) => {
@@ -173,12 +179,17 @@ fn write_report<R: Read, O: Write, E: Write>(
             },
             Run::Seen => write_text(alloc, &AsSeen { what: form }, reader, out, err),
         },
-        Report::Count => write_text(alloc, &dsa_count::Totals, reader, out, err),
-        Report::Draw(run) => match run {
-            Run::Own => write_text(alloc, &Drawing, reader, out, err),
-            Run::Seen => write_text(alloc, &AsSeen { what: Drawing }, reader, out, err),
+        Report::Chrome(run) => match run {
+            Run::Own => write_text(alloc, &ChromeTrace, reader, out, err),
+            Run::Seen => write_text(alloc, &AsSeen { what: ChromeTrace }, reader, out, err),
         },
-        Report::Conform => write_text(alloc, &Conformance, reader, out, err),
+        Report::Count => write_text(alloc, &dsa_count::Totals, reader, out, err),
+        Report::Draw(drawing, run) => match run {
+            Run::Own => write_text(alloc, &drawing, reader, out, err),
+            Run::Seen => write_text(alloc, &AsSeen { what: drawing }, reader, out, err),
+        },
+        Report::Conform(conformance) => write_text(alloc, &conformance, reader, out, err),
+        Report::Expand => write_text(alloc, &dsa_expand::Expansion, reader, out, err),
     }
 }
 
@@ -243,11 +254,7 @@ fn run_workers<T: Threads + Wait + Sync, O: Write, E: Write>(
 
 // Says that the threshold is above the size, and gives the exit status.
 fn refuse_threshold<E: Write>(err: &mut WatchedWriter<'_, E>, load: &Workload) -> u8
-    ensures status { result ≡ 2 }
-    ensures same_writer { IsSameWriter err.old err.new }
-    ensures text { has_refused err.new ≡ false
-        → Appends (watched_contents E.contents err.old) (watched_contents E.contents err.new)
-        (high_threshold_text load.now) }
+    ensures { IsRefusal result E.contents err.old err.new (high_threshold_text load.now) }
 {
     let threshold = load.threshold;
     let size = load.size;
@@ -257,6 +264,42 @@ fn refuse_threshold<E: Write>(err: &mut WatchedWriter<'_, E>, load: &Workload) -
         For more information, try '--help'.\n"
     ));
     REFUSED
+}
+
+// Says that no answer begins with the word, and gives the exit status.
+fn refuse_answer<E: Write>(err: &mut WatchedWriter<'_, E>, word: &str) -> u8
+    ensures { IsRefusal result E.contents err.old err.new (unknown_answer_text word.now) }
+{
+    let _ = err.print(format_args!(
+        "error: invalid value '{word}' for '--only <WORDS>'\n  \
+        [possible values: accepted, retry, dropped, taken, idle, fetched, no-batch, \
+        all-fetched, started, fence-wait, no-buffers, abandoned, done, not-ready, gone, \
+        ended, active, refused, finished, nothing, written, cleared, full]\n\n\
+        For more information, try '--help'.\n"
+    ));
+    REFUSED
+}
+
+// Says that the text names no range of steps, and gives the exit status.
+fn refuse_range<E: Write>(err: &mut WatchedWriter<'_, E>, text: &str) -> u8
+    ensures { IsRefusal result E.contents err.old err.new (unknown_range_text text.now) }
+{
+    let _ = err.print(format_args!(
+        "error: invalid value '{text}' for '--steps <A..B>': \
+        a range as 3..9, 3.. or ..9 is wanted\n\n\
+        For more information, try '--help'.\n"
+    ));
+    REFUSED
+}
+
+// Says what is wrong with the value, and gives the exit status.
+fn refuse_value<E: Write>(err: &mut WatchedWriter<'_, E>, value: WrongValue<'_>) -> u8
+    ensures { IsRefusal result E.contents err.old err.new (wrong_value_text value.entry) }
+{
+    match value {
+        WrongValue::Answer(word) => refuse_answer(err, word),
+        WrongValue::Range(text) => refuse_range(err, text),
+    }
 }
 
 // Shows what `clap` has to say, and gives the exit status: help goes to `out`, all else to `err`.
@@ -395,6 +438,14 @@ pub fn answer_words<T: Threads + Wait + Sync, R: Read, O: Write, E: Write>(
         × (out.new ≡ out.old)
         × IsFaultTold out.new E.contents err.old err.new (fault_line ScenarioFault.OutOfMemory) }
 
+    // A value that means nothing: this is told, unless there is no memory for the words.
+    ensures wrong_value { (value : WrongValue)
+        → AskWrongValue (map string_bytes words.now) value
+        → IsRefusal result E.contents err.old err.new (wrong_value_text value)
+        ⊎ (result ≡ 1)
+        × (out.new ≡ out.old)
+        × IsFaultTold out.new E.contents err.old err.new (fault_line ScenarioFault.OutOfMemory) }
+
     // A usage error, and words that ask for no input.
     ensures refused { result ≡ 2 → (out.new ≡ out.old) × (reader.new ≡ reader.old) }
     ensures understood { result ≡ 0 → IsUnderstood (map string_bytes words.now) }
@@ -409,6 +460,7 @@ pub fn answer_words<T: Threads + Wait + Sync, R: Read, O: Write, E: Write>(
         Ok(Asked::Serve) => serve_input(alloc, reader, out, err),
         Ok(Asked::Threads(load)) => run_workers(rt, alloc, &load, out, err),
         Ok(Asked::HighThreshold(load)) => refuse_threshold(err, &load),
+        Ok(Asked::WrongValue(value)) => refuse_value(err, value),
         Err(error) => show(out, err, &error),
     }
 }
@@ -473,6 +525,9 @@ pub fn run_words<T: Threads + Wait + Sync, R: Read, O: Write, E: Write>(
     ensures high_threshold { (rows : List Row)
         → NameThreads (map string_bytes words.now) rows
         → SayHighThreshold rows
+        → (result ≡ 2) ⊎ (result ≡ 1) × (out.new ≡ out.old) }
+    ensures wrong_value { (value : WrongValue)
+        → AskWrongValue (map string_bytes words.now) value
         → (result ≡ 2) ⊎ (result ≡ 1) × (out.new ≡ out.old) }
     ensures quiet { result ≡ 0 → err.new ≡ err.old }
     ensures statuses { (result ≡ 0) ⊎ (result ≡ 1) ⊎ ((result ≡ 2) × (1 ≤ length words.now)) }

@@ -90,13 +90,15 @@ fn output_without_input(rt: HostRuntime) {
 }
 
 // The words, the status, and how often the input is asked.
-const TOLD: [(Words, u8, u32); 6] = [
+const TOLD: [(Words, u8, u32); 8] = [
     (&[], 1, 1),
     (&["draw"], 1, 1),
     (&["serve"], 1, 1),
     (&["fly"], 2, 0),
     (&["threads", "--turns=0"], 2, 0),
     (&["threads", "--threshold=17"], 2, 0),
+    (&["explain", "--only=idel"], 2, 0),
+    (&["draw", "--steps=3"], 2, 0),
 ];
 
 // No more of a fault's line, or of what is said of the words, is tried after so many bytes of it.

@@ -8,15 +8,20 @@ use std::sync::Wait;
 use std::thread::Threads;
 
 /// Each with how the output begins, of a document of one step.
-pub const READERS: [(Words, &str); 9] = [
+pub const READERS: [(Words, &str); 14] = [
     (&[], "nothing\n"),
     (&["--"], "nothing\n"),
     (&["check"], ""),
     (&["explain"], "0 poll -> nothing"),
-    (&["trace"], "0 poll -> nothing | "),
+    (&["explain", "--only", "idle,nothing"], "0 poll -> nothing"),
+    (&["trace"], "0 | | | | poll -> nothing"),
     (&["trace", "--json"], "{\"step\":0,"),
+    (&["trace", "--wide"], "0 | "),
+    (&["trace", "--chrome"], "{\"traceEvents\":"),
     (&["draw"], "<svg "),
+    (&["draw", "--steps", "3.."], "<svg "),
     (&["conform"], "conforms"),
+    (&["conform", "--all"], "conforms"),
     (&["serve"], "nothing\n"),
 ];
 

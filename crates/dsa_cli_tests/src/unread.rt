@@ -8,7 +8,7 @@ use std::process::Abort;
 use std::sync::Wait;
 use std::thread::Threads;
 
-const WRONG: [Words; 25] = [
+const WRONG: [Words; 31] = [
     &["fly"],
     &[""],
     &["--json"],
@@ -19,6 +19,12 @@ const WRONG: [Words; 25] = [
     &["draw", "--json"],
     &["trace", "--json", "--json"],
     &["trace", "--clients", "1"],
+    &["trace", "--name", "1"],
+    &["explain", "--only", "retry,idel"],
+    &["explain", "--only", ""],
+    &["explain", "--client=65536"],
+    &["draw", "--steps", "9..3"],
+    &["conform", "--wide"],
     &["serve", "serve"],
     &["threads", "extra"],
     &["threads", "--fly", "1"],

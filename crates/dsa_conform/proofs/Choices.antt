@@ -13,7 +13,6 @@ use Rattle.std.specs.{Prelude.{All, Contains}, List.{list_any}}
 use Rattle.dsa_base.{specs.{Lists.{In}, Numbers.{numbers_below}, Rows.{passes}}, proofs.NumberLemmas.{numbers_below-miss}}
 use Rattle.dsa_base.proofs.Tables.{not-both}
 use Rattle.dsa_store.specs.Content.{HeldEntry}
-use Rattle.dsa_regs.specs.declared.Fault.{Fault}
 use Rattle.dsa_book.specs.declared.answer.{DispatchAnswer.TheVariants.{Taken, Idle}}
 use Rattle.dsa_book.specs.declared.answer.Reply.{Reply}
 use Rattle.dsa_book.specs.declared.answer.Reply.TheVariants.{Dispatch}
@@ -24,6 +23,7 @@ use Rattle.dsa_book.specs.State.{Work, State, ticket_of_entry}
 use Rattle.dsa_book.specs.Work.{qualifies, may_take, front_of, dispatch_of}
 use Rattle.dsa_book.proofs.Nexts.{next-is, next-of, next-each}
 use Rattle.dsa_device.{specs.Running.{Running, running_after, after_answer}, proofs.Steps.{answered_by_cases}}
+use Rattle.dsa_scenario.specs.declared.actions.BadWord.{BadWord}
 use Rattle.dsa_scenario.specs.declared.run.Record.{Record, TheVariants.{Stepped, Refused}}
 use Rattle.dsa_scenario.specs.Lines.{record_text}
 use Rattle.dsa_conform.specs.Allowed.{IsAllowed, AreAllowed, IsAscending, HasOneAnswer, IsNoDispatch}
@@ -246,7 +246,7 @@ all_offers now e room some = record {
 }
 
 -- where there is one answer, it is all that may be answered
-pub only_answer : (now : Running) (asked : Result Event Fault) (entry : Record) → HasOneAnswer now asked
+pub only_answer : (now : Running) (asked : Result Event BadWord) (entry : Record) → HasOneAnswer now asked
     → IsAllowed now asked entry → AreAllowed now asked (entry ∷ [])
 only_answer now asked entry one h = record {
   each = All-push (IsAllowed now asked) [] entry (All-nil (IsAllowed now asked)) h;
@@ -265,7 +265,7 @@ filled_list xs h none = eqb-false (length xs) 0 h (ap length none)
 -- ---- where there is one answer
 
 -- a history without room has one
-pub full_answer : (now : Running) (asked : Result Event Fault) → (length now.history == now.capacity) ≡ true
+pub full_answer : (now : Running) (asked : Result Event BadWord) → (length now.history == now.capacity) ≡ true
     → HasOneAnswer now asked
 full_answer now asked full =
     one_answer now asked (λ e is room t q s n. not-both (length now.history == now.capacity) full room)
@@ -287,7 +287,7 @@ answered_otherwise s (Dispatch e) choice h = absurd h
 answered_otherwise s _ choice h = refl
 
 -- what is no dispatch has one answer
-pub other_answer : (now : Running) (asked : Result Event Fault) → IsNoDispatch asked → HasOneAnswer now asked
+pub other_answer : (now : Running) (asked : Result Event BadWord) → IsNoDispatch asked → HasOneAnswer now asked
 other_answer now asked h = one_answer now asked (λ e is room t q s n.
     let other : is_dispatch (reply_of now.state e (from_queue q)).0 ≡ false =
     answered_otherwise now.state e (from_queue q) (subst (λ a. IsNoDispatch a) is h) in

@@ -2,16 +2,16 @@
 use Rattle.std.proofs.Common.{◌≡◌, ◌<◌, ◌==◌, ◌∙◌, ℕ, true, false, List, [], ◌∷◌, Some, Ok, Result, length, sym, subst, refl}
 use Rattle.std.proofs.lemmas.Option.{same_Some}
 use Rattle.dsa_book.specs.State.{Work}
-use Rattle.dsa_regs.specs.declared.Fault.{Fault}
 use Rattle.dsa_book.specs.declared.event.Event.{Event, TheVariants.{Dispatch}}
 use Rattle.dsa_device.specs.Running.{Running}
+use Rattle.dsa_scenario.specs.declared.actions.BadWord.{BadWord}
 use Rattle.dsa_scenario.specs.{declared.run.Record.{Record}, Run.{answered_by, Leads}}
 use Rattle.dsa_conform.specs.Allowed.{IsAllowed, IsClosest, HasOneAnswer, NoneShows, offer, offers}
 use Rattle.dsa_conform.specs.Seen.{Seen, is_seen, shows}
 use Rattle.dsa_conform.proofs.{Choices.{idle_answer, none_shows}, Walks.{shows_unseen}}
 
 -- the one answer of a step
-pub only_closest : (now new : Running) (asked : Result Event Fault) (seen : Seen) (entry : Record)
+pub only_closest : (now new : Running) (asked : Result Event BadWord) (seen : Seen) (entry : Record)
     → answered_by entry ≡ asked → Leads now entry new → HasOneAnswer now asked → IsClosest now asked seen new entry
 only_closest now new asked seen entry answers leads one = record {
   answers = answers;
@@ -22,7 +22,7 @@ only_closest now new asked seen entry answers leads one = record {
 }
 
 -- any answer, where nothing was seen
-pub unseen_closest : (now new : Running) (asked : Result Event Fault) (seen : Seen) (entry : Record)
+pub unseen_closest : (now new : Running) (asked : Result Event BadWord) (seen : Seen) (entry : Record)
     → answered_by entry ≡ asked → Leads now entry new → is_seen seen ≡ false → IsClosest now asked seen new entry
 unseen_closest now new asked seen entry answers leads none = record {
   answers = answers;

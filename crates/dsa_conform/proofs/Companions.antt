@@ -16,6 +16,7 @@ use Rattle.dsa_book.proofs.{Nexts.{next-is}, EqualReplies.{equal-replies}}
 use Rattle.dsa_answers.proofs.Alike.{alike-qualifies}
 use Rattle.dsa_device.specs.Running.{Running, running_at_first, after_answer, IsReplay}
 use Rattle.dsa_device.proofs.Steps.{answered_by_cases}
+use Rattle.dsa_scenario.specs.declared.actions.BadWord.{BadWord}
 use Rattle.dsa_scenario.specs.declared.actions.Action.{Action, TheVariants.{Ask, Finish, Refuse}}
 use Rattle.dsa_scenario.specs.declared.run.Record.{Record, TheVariants.{Stepped, Refused}}
 use Rattle.dsa_scenario.specs.{Lines.{record_text}, Steps.{standing}}
@@ -122,7 +123,7 @@ covers_one caps capacity done here number now tickets new entry h named one answ
 
 -- a step that goes on by an answer
 pub goes_by : (caps : Caps) (capacity : ℕ) (done : List (Action × Seen)) (here : Action × Seen) (number : ℕ)
-    (now : Running) (tickets : List Ticket) (new : Way) (entry : Record) (asked : Result Event Fault)
+    (now : Running) (tickets : List Ticket) (new : Way) (entry : Record) (asked : Result Event BadWord)
     → ((before : List Record) → IsTable (slice_get tickets) before → asked ≡ event_of before here.0)
     → ((h : IsFollowedTo caps capacity done number now tickets) → IsOneWay now (event_of h.records here.0) here.1)
     → answered_by entry ≡ asked → Leads now entry new.device
@@ -185,7 +186,7 @@ same-dispatch b c (Finish e name o) engine h = absurd cc
 same-dispatch b c (Refuse fault) engine h = absurd cc
 
 -- an answer of the other device that looks alike, after which both are alike
-pub record Meets (asked : Result Event Fault) (e m : Running) (r : Record) : Type 0 where
+pub record Meets (asked : Result Event BadWord) (e m : Running) (r : Record) : Type 0 where
   pub answer : Record
   pub after : Running
   pub answers : answered_by answer ≡ asked
@@ -266,7 +267,7 @@ forked_alike caps capacity steps observed number here now after tickets entry qu
     named-push (x ∷ os) o h k = (h.0, named-push os o h.1 k)
 
 pub gone_forked : (caps : Caps) (capacity : ℕ) (steps : List Data) (here : Action × Seen) (number : ℕ) (way : Way)
-    (old new : List Way) (tolds : List Told) (asked : Result Event Fault) (q : ℕ) (qs choices : List ℕ)
+    (old new : List Way) (tolds : List Told) (asked : Result Event BadWord) (q : ℕ) (qs choices : List ℕ)
     → ((before : List Record) → IsTable (slice_get way.tickets.items) before → asked ≡ event_of before here.0)
     → IsFork way.device asked here.1 (q ∷ qs) → choices ≡ queues_taken way.device.history
     → AreAdded caps capacity steps number choices (q ∷ qs) old new → (observed : List (Action × Seen))
@@ -303,7 +304,7 @@ gone_forked caps capacity steps here number way old new tolds asked q qs choices
 -- ---- no fork
 
 pub gone_on : (caps : Caps) (capacity : ℕ) (done : List (Action × Seen)) (here : Action × Seen) (number : ℕ)
-    (now : Running) (asked : Result Event Fault) (way : Way) (old new : List Way) (tolds : List Told)
+    (now : Running) (asked : Result Event BadWord) (way : Way) (old new : List Way) (tolds : List Told)
     → IsFollowedOn caps capacity (done ++ here ∷ []) (number + 1) way None → IsOn now asked here.1 way None
     → IsAdded old way new → IsGone caps capacity done here number now asked old tolds new tolds
 gone_on caps capacity done here number now asked way old new tolds follows on added = record {
@@ -328,7 +329,7 @@ gone_on caps capacity done here number now asked way old new tolds follows on ad
     only w v (inr none) = absurd none
 
 pub gone_told : (caps : Caps) (capacity : ℕ) (done : List (Action × Seen)) (here : Action × Seen) (number : ℕ)
-    (now : Running) (asked : Result Event Fault) (old : List Way) (before : List Told) (told : Told)
+    (now : Running) (asked : Result Event BadWord) (old : List Way) (before : List Told) (told : Told)
     → IsTold now asked here.1 told → IsGone caps capacity done here number now asked old before old (before ++ told ∷ [])
 gone_told caps capacity done here number now asked old before told is = record {
   each = λ other i. inl i;
@@ -358,7 +359,7 @@ none_gone caps capacity done here number new tolds none nothing = record {
 some_more : (old new : List Way) → ((way : Way) → In way old → In way new) → HasOne old → HasOne new
 some_more old new all some = (some.0, all some.0 some.1)
 
-one_more_gone : (now : Running) (asked : Result Event Fault) (seen : Seen) (old new : List Way) (before after : List Told)
+one_more_gone : (now : Running) (asked : Result Event BadWord) (seen : Seen) (old new : List Way) (before after : List Told)
     → ((way : Way) → In way old → In way new) → ((told : Told) → In told before → In told after)
     → IsOneGone now asked seen old before → IsOneGone now asked seen new after
 one_more_gone now asked seen old new before after all kept one = record {
@@ -624,7 +625,7 @@ more_added caps capacity steps number choices queues q old mid new way before by
 
 -- a fork, by its queues as a list
 pub forked : (caps : Caps) (capacity : ℕ) (steps : List Data) (here : Action × Seen) (number : ℕ) (way : Way)
-    (old new : List Way) (tolds : List Told) (asked : Result Event Fault) (queues choices : List ℕ)
+    (old new : List Way) (tolds : List Told) (asked : Result Event BadWord) (queues choices : List ℕ)
     → ((before : List Record) → IsTable (slice_get way.tickets.items) before → asked ≡ event_of before here.0)
     → (length queues == 0) ≡ false → IsFork way.device asked here.1 queues → choices ≡ queues_taken way.device.history
     → AreAdded caps capacity steps number choices queues old new → (observed : List (Action × Seen))
@@ -638,7 +639,7 @@ forked caps capacity steps here number way old new tolds asked (q ∷ qs) choice
     gone_forked caps capacity steps here number way old new tolds asked q qs choices asks fork chosen added observed read h
 
 -- and none
-pub not_forked : (now : Running) (asked : Result Event Fault) (seen : Seen) (queues : List ℕ)
+pub not_forked : (now : Running) (asked : Result Event BadWord) (seen : Seen) (queues : List ℕ)
     → (length queues == 0) ≡ true → IsFork now asked seen queues → IsOneWay now asked seen
 not_forked now asked seen [] none fork = fork
 not_forked now asked seen (q ∷ qs) none fork = let e : q ∷ qs ≡ [] = empty_list (q ∷ qs) none in absurd cc
@@ -653,7 +654,7 @@ has_none ways none = empty_list ways none
 
 -- one device, by no fork
 pub gone_alone : (caps : Caps) (capacity : ℕ) (done : List (Action × Seen)) (here : Action × Seen) (number : ℕ)
-    (now : Running) (asked : Result Event Fault) (way : Way) (old new : List Way) (tolds : List Told)
+    (now : Running) (asked : Result Event BadWord) (way : Way) (old new : List Way) (tolds : List Told)
     → IsFollowedOn caps capacity (done ++ here ∷ []) (number + 1) way None × IsOn now asked here.1 way None
     → IsAdded old way new → IsGone caps capacity done here number now asked old tolds new tolds
 gone_alone caps capacity done here number now asked way old new tolds h added =
@@ -661,7 +662,7 @@ gone_alone caps capacity done here number now asked way old new tolds h added =
 
 -- one that tells what it allows
 pub gone_telling : (caps : Caps) (capacity : ℕ) (done : List (Action × Seen)) (here : Action × Seen) (number : ℕ)
-    (now : Running) (asked : Result Event Fault) (way : Way) (old : List Way) (before after : List Told) (told : Told)
+    (now : Running) (asked : Result Event BadWord) (way : Way) (old : List Way) (before after : List Told) (told : Told)
     → IsFollowedOn caps capacity (done ++ here ∷ []) (number + 1) way (Some told)
     × IsOn now asked here.1 way (Some told) → after ≡ before ++ told ∷ []
     → IsGone caps capacity done here number now asked old before old after

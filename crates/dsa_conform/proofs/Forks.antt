@@ -5,12 +5,12 @@ use Rattle.std.proofs.Common.{◌≡◌, ◌<◌, ◌≤◌, ◌==◌, ◌+◌, 
 use Rattle.std.proofs.Common.{Result, Ok, refl, sym, ap, subst, ◌∙◌, arith}
 use Rattle.std.proofs.lemmas.{Option.{same_Some}, Bool.{eqb-true, eqb-false}, List.Elements.{All-contains}}
 use Rattle.dsa_base.{specs.{Lists.{In}}, proofs.{Tables.{not-both}, Lists.{In-alone, In-only}}}
-use Rattle.dsa_regs.specs.declared.Fault.{Fault}
 use Rattle.dsa_book.specs.declared.{answer.{Reply.{Reply}, DispatchAnswer.TheVariants.{Taken}}, event.{Event.{Event}}}
 use Rattle.dsa_book.specs.{State.{State, Work}, Machine.{next, full_reply, reply_of}, Choice.{from_queue}, Work.{qualifies}}
 use Rattle.dsa_book.proofs.{EqualReplies.{equal-replies}, Nexts.{next-is}}
 use Rattle.dsa_device.specs.Running.{Running}
 use Rattle.dsa_device.proofs.Steps.{answered_by_cases}
+use Rattle.dsa_scenario.specs.declared.actions.BadWord.{BadWord}
 use Rattle.dsa_scenario.specs.declared.run.Record.{Record, TheVariants.{Stepped, Refused}}
 use Rattle.dsa_conform.specs.Allowed.{IsAllowed, IsNoDispatch, offer, offers}
 use Rattle.dsa_conform.specs.{Seen.{Seen, shows}, Ways.{IsFork, IsOneWay, queue_of_record, queue_of_reply}}
@@ -28,7 +28,7 @@ none_next : (now : Running) (s : State) (e : Event) (r : Reply) → NoneTaken no
 none_next now s e (reply.Dispatch (Taken ticket q)) none room n = absurd (none room ticket q s n)
 none_next now s e _ none room n = refl
 
-tells_none : (now : Running) (asked : Result Event Fault) (entry : Record)
+tells_none : (now : Running) (asked : Result Event BadWord) (entry : Record)
     → ((e : Event) → asked ≡ Ok e → NoneTaken now e) → IsAllowed now asked entry → queue_of_record entry ≡ None
 tells_none now asked (Refused fault) none is = refl
 tells_none now asked (Stepped x) none is =
@@ -36,18 +36,18 @@ tells_none now asked (Stepped x) none is =
     (λ full told. ap queue_of_reply (equal-replies x.reply (full_reply x.event) told) ∙ full-tells x.event)
     (λ s room n. none_next now s x.event x.reply (none x.event (sym is.answers)) room n)
 
-one_way : (now : Running) (asked : Result Event Fault) (seen : Seen)
+one_way : (now : Running) (asked : Result Event BadWord) (seen : Seen)
     → ((e : Event) → asked ≡ Ok e → NoneTaken now e) → IsOneWay now asked seen
 one_way now asked seen none =
     λ first second is are shown showing. tells_none now asked first none is ∙ sym (tells_none now asked second none are)
 
 -- a history without room, and what is no dispatch
-pub full_way : (now : Running) (asked : Result Event Fault) (seen : Seen)
+pub full_way : (now : Running) (asked : Result Event BadWord) (seen : Seen)
     → (length now.history == now.capacity) ≡ true → IsOneWay now asked seen
 full_way now asked seen full =
     one_way now asked seen (λ e is room t q s n. not-both (length now.history == now.capacity) full room)
 
-pub other_way : (now : Running) (asked : Result Event Fault) (seen : Seen) → IsNoDispatch asked → IsOneWay now asked seen
+pub other_way : (now : Running) (asked : Result Event BadWord) (seen : Seen) → IsNoDispatch asked → IsOneWay now asked seen
 other_way now asked seen h = one_way now asked seen (λ e is room t q s n.
     let other : is_dispatch (reply_of now.state e (from_queue q)).0 ≡ false =
     answered_otherwise now.state e (from_queue q) (subst (λ a. IsNoDispatch a) is h) in

@@ -17,7 +17,10 @@ pub mod Objects
 pub mod PartC
 pub mod Placing
 pub mod Steps
+pub mod OwnAnswers
 pub mod Walks
+pub mod Striking
+pub mod SameActions
 pub mod Verdicts
 pub mod ToldAgain
 pub mod Chars

@@ -26,9 +26,9 @@ is_named : (a : Action) → NamedIn (Some a) → IsNamedEnd a
 unfolding NamedIn
 is_named a h = h
 
-command_named : (c : Result Command Fault) → IsNamedEnd (action_of_command c)
-command_named (Ok command) = tt
-command_named (Err fault) = tt
+command_named : (word : ℕ) (c : Result Command Fault) → IsNamedEnd (action_of_command word c)
+command_named word (Ok command) = tt
+command_named word (Err fault) = tt
 
 -- whatever is read by these rows, what is made of it asks for no end but by a name
 abbrev AreNamedBy : (rows : List Row) → Maker Action rows → Type 0
@@ -51,7 +51,7 @@ row_named (kind_row name rows asked) d h = made_named rows asked d h
 
 -- each kind of steps
 each_named : (kind : StepKind) → AreNamedIn (row_of_kind kind)
-each_named kind.Command = λ word. command_named (command_of word)
+each_named kind.Command = λ word. command_named word (command_of word)
 each_named _ = search
 
 action_named : (d : Data) → NamedIn (action_of d)

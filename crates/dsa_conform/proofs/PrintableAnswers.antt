@@ -123,7 +123,7 @@ event_words event.ClearError = refl
 
 pub asked : (entry : Record) → Shown (asked_words entry)
 asked (Stepped step) = event_words step.event
-asked (Refused f) = refl
+asked (Refused refused) = hex refused.word
 
 -- ---- answers
 
@@ -255,4 +255,4 @@ step_words now after e r is =
 
 pub answer_words : (now after : Running) (entry : Record) → Leads now entry after → Shown (record_text entry)
 answer_words now after (Stepped step) leads = step_words now after step.event step.reply leads
-answer_words now after (Refused f) leads = refusal f
+answer_words now after (Refused refused) leads = refusal refused.fault

@@ -3,7 +3,7 @@ use Rattle.dsa_book.specs.declared.event.Event.TheVariants as event
 use Rattle.dsa_engines.specs.declared.reasons.QueueReason.TheVariants as queue
 use Rattle.dsa_engines.specs.declared.reasons.StartReason.TheVariants as start
 use Rattle.dsa_regs.specs.declared.Deed.TheVariants as deed
-use Rattle.std.proofs.Common.{◌==◌, ℕ, List, [], ◌∷◌, ◌++◌, refl}
+use Rattle.std.proofs.Common.{◌==◌, ◌/◌, ◌%◌, ◌^◌, ℕ, List, [], ◌∷◌, ◌++◌, refl}
 use Rattle.std.proofs.Common.{Option, Some, None, Result, Ok, Err, codes, flat_map, length, nat_lt}
 use Rattle.dsa_base.specs.Numbers.{numbers_below}
 use Rattle.dsa_desc.specs.declared.Outcome.{Outcome}
@@ -28,11 +28,12 @@ use Rattle.dsa_explain_lines.specs.Parts.{told_of, kept_part, keeping_part, queu
 use Rattle.dsa_explain_lines.specs.Parts.{queue_part_of, queue_part, dispatch_part_of, start_part_of}
 use Rattle.dsa_explain_lines.specs.Parts.{start_part, gone_words, unended_words, finish_part_of}
 use Rattle.dsa_explain_lines.specs.Parts.{any_reason, lists_part, wait_part_of, deed_part, issue_part_of, event_part}
-use Rattle.dsa_explain_lines.specs.Parts.{room_part, part_of}
+use Rattle.dsa_explain_lines.specs.Parts.{no_command_part, room_part, part_of}
 use Rattle.dsa_conform.proofs.Printable.{Shown, joined, chosen, listed, number, parts}
 use Rattle.dsa_conform.proofs.PrintableReasons.{kept, submit_words, engine_words, queue_words, fetch_words, start_words}
 use Rattle.dsa_conform.proofs.PrintableReasons.{finish_words, done_words, fate, unnamed, issue_words}
 use Rattle.dsa_conform.proofs.PrintableReasons.{poll_words, wait_words, named_list, queueless, write_words, clear_words}
+use Rattle.dsa_scenario.specs.declared.actions.BadWord.{BadWord}
 
 told : {R : Type 0} (sentence : R → List ℕ) (reason : Option R) → ((r : R) → Shown (sentence r))
     → Shown (told_of sentence reason)
@@ -141,8 +142,11 @@ event_told s event.ClearError = told clear_sentence (clear_reason s.work.setup.n
 room : (n : ℕ) → Shown (room_part n)
 room n = search parts depth 16
 
-pub reason : (now : Running) (asked : Result Event Fault) → Shown (part_of now asked)
-reason now (Err f) = refl
+no_command : (number reserved : ℕ) → Shown (no_command_part number reserved)
+no_command number reserved = search parts depth 16
+
+pub reason : (now : Running) (asked : Result Event BadWord) → Shown (part_of now asked)
+reason now (Err refused) = no_command (refused.word / 2 ^ 20 % 2 ^ 5) (refused.word / 2 ^ 25 % 2 ^ 6)
 reason now (Ok e) =
     chosen (length now.history == now.capacity) (room_part now.capacity) (event_part now.state e)
     (room now.capacity) (event_told now.state e)

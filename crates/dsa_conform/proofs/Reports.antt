@@ -1,5 +1,6 @@
 -- What is printed has the documented lines.
-use Rattle.std.proofs.Common.{◌≡◌, ◌∙◌, ℕ, suc, List, [], ◌∷◌, ◌++◌, Bool, true, false, Option, Some, None, refl, sym}
+use Rattle.std.proofs.Common.{◌≡◌, ◌∙◌, ◌+◌, ℕ, suc, List, [], ◌∷◌, ◌++◌, Bool, true, false, Option, Some, None, refl}
+use Rattle.std.proofs.Common.{sym}
 use Rattle.std.proofs.Common.{subst, ap}
 use Rattle.std.proofs.Common.{append_assoc, append-nil, length, take, flat_map, codes, inl, inr}
 use Rattle.std.specs.{Fmt.{decimal}, Prelude.{replicate}}
@@ -17,7 +18,10 @@ use Rattle.dsa_conform.specs.Seen.{Seen}
 use Rattle.dsa_conform.specs.Lines.{conforms_text, flag_text, seen_words, seen_line, seen_count, asked_step_line}
 use Rattle.dsa_conform.specs.Lines.{allowed_line, difference_text}
 use Rattle.dsa_conform.specs.Run.{IsConforming, IsDifference, IsAllowedLine, IsVerdict, IsConformance}
-use Rattle.dsa_conform.specs.Forms.{IsLineWith, AreLinesWith, words_of_difference, IsReport}
+use Rattle.dsa_conform.specs.Every.{AreDifferences, AreDiffering, IsConformanceOf, IsFullVerdict, differs_text}
+use Rattle.dsa_conform.specs.Every.{unseen_at}
+use Rattle.dsa_conform.specs.Forms.{IsLineWith, AreLinesWith, words_of_difference, AreLinesOfAll, IsFullReport}
+use Rattle.dsa_conform.specs.Forms.{IsReport}
 use Rattle.dsa_conform.proofs.Printable.{Shown, joined, chosen, parts}
 use Rattle.dsa_conform.proofs.{PrintableAnswers.{asked, answer_words}, PrintableParts.{reason}}
 use Rattle.dsa_conform.proofs.PrintableTexts.{text_shown}
@@ -123,6 +127,64 @@ conforming_report caps capacity steps text h =
     let seen = seen_count h.observed in
     (conforms_text n seen, [], conforms_is_line n seen, refl, h.told ∙ sym (append-nil (conforms_text n seen)))
 
+-- ---- every step that differs
+
+differs_is_line : (differing steps seen : ℕ) → IsLineWith (codes "differs: ") (differs_text differing steps seen)
+differs_is_line differing steps seen =
+    let counts : List ℕ = count_text [] differing (codes "step") (codes "steps") ++ codes " of " ++ decimal steps
+    ++ count_text (codes ", ") seen (codes "answer") (codes "answers") in
+    let printed : Shown (counts ++ codes " seen") = search parts depth 24 in
+    record {
+      rest = counts ++ codes " seen";
+      is = ap (λ l. codes "differs: " ++ l) (sym (append_assoc counts (codes " seen") (codes "\n")));
+      printable = printed;
+    }
+
+lines_joined : (words more : List (List ℕ)) (text rest : List ℕ) → AreLinesWith words text → AreLinesWith more rest
+    → AreLinesWith (words ++ more) (text ++ rest)
+lines_joined [] more text rest h k = subst (λ t. AreLinesWith more (t ++ rest)) (sym h) k
+lines_joined (word ∷ words) more text rest h k = (
+  h.0,
+  h.1 ++ rest,
+  h.2,
+  lines_joined words more h.1 rest h.3 k,
+  ap (λ t. t ++ rest) h.4 ∙ append_assoc h.0 h.1 rest,
+)
+
+differences_report : (caps : Caps) (capacity : ℕ) (observed : List (Action × Seen)) (found : List (ℕ × List ℕ))
+    → AreDifferences caps capacity observed found
+    → (each : List ℕ) × AreLinesWith (flat_map (λ allowed. words_of_difference (suc allowed)) each)
+    (flat_map (λ one. one.1) found)
+differences_report caps capacity observed [] h = ([], refl)
+differences_report caps capacity observed (one ∷ more) h =
+    let here = differing_report caps capacity (take one.0 observed) h.0.here one.0 one.1 h.0.differs in
+    let later = differences_report caps capacity (unseen_at one.0 observed) more h.1 in (
+      here.0 ∷ later.0,
+      lines_joined (words_of_difference (suc here.0)) (flat_map (λ allowed. words_of_difference (suc allowed)) later.0)
+          one.1 (flat_map (λ (o : ℕ × List ℕ). o.1) more) here.1 later.1,
+    )
+
+full_report : (caps : Caps) (capacity : ℕ) (steps : List Data) (i : ℕ) (text : List ℕ)
+    → AreDiffering caps capacity steps i text → AreLinesOfAll text
+full_report caps capacity steps i text h =
+    let first = differing_report caps capacity (take i h.observed) h.differ.0.here i h.first h.differ.0.differs in
+    let more = differences_report caps capacity (unseen_at i h.observed) h.more h.differ.1 in
+    let last = differs_text (length h.more + 1) (length h.observed) (seen_count h.observed) in
+    let rest : List ℕ = flat_map (λ (one : ℕ × List ℕ). one.1) h.more in
+    let words : List (List ℕ) = flat_map (λ allowed. words_of_difference (suc allowed)) more.0 in (
+      first.0,
+      more.0,
+      subst (AreLinesWith ((words_of_difference (suc first.0) ++ words) ++ codes "differs: " ∷ [])) (sym h.is)
+          (lines_joined (words_of_difference (suc first.0) ++ words) (codes "differs: " ∷ []) (h.first ++ rest) last
+          (lines_joined (words_of_difference (suc first.0)) words h.first rest first.1 more.1) (
+            last,
+            [],
+            differs_is_line (length h.more + 1) (length h.observed) (seen_count h.observed),
+            refl,
+            sym (append-nil last),
+          )),
+    )
+
 -- of a fault that no verdict has there is no report
 judged : (caps : Caps) (capacity : ℕ) (steps : List Data) (f : Option ScenarioFault) (text : List ℕ)
     → IsVerdict caps capacity steps f text → IsReport f text
@@ -138,6 +200,20 @@ judged caps capacity steps (Some fault.BadCaps) text h = absurd h
 judged caps capacity steps (Some fault.BadCapacity) text h = absurd h
 judged caps capacity steps (Some fault.Write) text h = absurd h
 judged caps capacity steps (Some fault.OutOfMemory) text h = absurd h
+
+all_judged : (caps : Caps) (capacity : ℕ) (steps : List Data) (f : Option ScenarioFault) (text : List ℕ)
+    → IsFullVerdict caps capacity steps f text → IsFullReport f text
+all_judged caps capacity steps None text h = conforming_report caps capacity steps text h
+all_judged caps capacity steps (Some (fault.Differs i)) text h = full_report caps capacity steps i text h
+all_judged caps capacity steps (Some _) text h = absurd h
+
+pub all_reported : (bytes : List ℕ) (f : Option ScenarioFault) (text : List ℕ) → IsConformanceOf true bytes f text
+    → IsFullReport f text
+all_reported bytes (Some (fault.BadStep i)) text h = h.1
+all_reported bytes None text h = all_judged h.caps h.capacity h.steps None text h.verdict
+all_reported bytes (Some (fault.Differs i)) text h =
+    all_judged h.caps h.capacity h.steps (Some (fault.Differs i)) text h.verdict
+all_reported bytes (Some _) text h = absurd h.verdict
 
 pub report : (bytes : List ℕ) (f : Option ScenarioFault) (text : List ℕ) → IsConformance bytes f text → IsReport f text
 report bytes (Some (fault.BadStep i)) text h = h.1

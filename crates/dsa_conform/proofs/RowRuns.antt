@@ -8,6 +8,8 @@ use Rattle.dsa_base.{specs.Lists.{In}, proofs.Tables.{not-both}}
 use Rattle.dsa_regs.specs.declared.{Caps.{Caps}, Fault.{Fault, TheVariants.{BadCommand}}}
 use Rattle.dsa_book.specs.declared.event.Event.{Event}
 use Rattle.dsa_device.specs.Running.{Running, running_at_first, IsReplay}
+use Rattle.dsa_scenario.specs.declared.actions.BadWord.{BadWord}
+use Rattle.dsa_scenario.specs.Worked.{no_command}
 use Rattle.dsa_scenario.specs.declared.actions.Action.{Action, TheVariants.{Ask, Refuse}}
 use Rattle.dsa_scenario.specs.declared.run.Record.{Record, TheVariants.{Stepped, Refused}}
 use Rattle.dsa_scenario.specs.{Run.{event_of, AreOf}, Steps.{standing}, Worked.{smallest_caps, stepped}}
@@ -20,13 +22,13 @@ use Rattle.dsa_conform.proofs.Runs.{ends_with, run_of}
 use Rattle.dsa_conform.proofs.SeenAlike.{only_entry}
 
 -- all runs of these steps lead to one state, and ask the same there
-abbrev pub LeadTo : Caps → ℕ → List (Action × Seen) → Action → Running → Result Event Fault → Type 0
+abbrev pub LeadTo : Caps → ℕ → List (Action × Seen) → Action → Running → Result Event BadWord → Type 0
 LeadTo caps capacity before action now asked = (records : List Record) → (after : Running)
     → RunFrom [] (running_at_first caps capacity) before records after → (after ≡ now) × (event_of records action ≡ asked)
 
 -- where one answer may come there, its line is all there is to tell
 pub all_lines : (caps : Caps) (capacity : ℕ) (before : List (Action × Seen)) (action : Action)
-    (now : Running) (asked : Result Event Fault) (entry : Record) (some : List Record)
+    (now : Running) (asked : Result Event BadWord) (entry : Record) (some : List Record)
     → IsReplay (running_at_first caps capacity) → IsShownRun caps capacity before some
     → LeadTo caps capacity before action now asked → IsAllowed now asked entry
     → ((other : Record) → IsAllowed now asked other → entry ≡ other)
@@ -72,7 +74,7 @@ all_lines caps capacity before action now asked entry some i run lead may only =
 
 -- and where it does not show what was seen, there is a difference
 pub differs : (caps : Caps) (capacity : ℕ) (before : List (Action × Seen)) (here : Action × Seen) (number : ℕ)
-    (now : Running) (asked : Result Event Fault) (entry : Record) (some : List Record)
+    (now : Running) (asked : Result Event BadWord) (entry : Record) (some : List Record)
     → IsReplay (running_at_first caps capacity) → IsShownRun caps capacity before some
     → LeadTo caps capacity before here.0 now asked → IsAllowed now asked entry
     → ((other : Record) → IsAllowed now asked other → entry ≡ other) → shows here.1 entry ≡ false
@@ -120,7 +122,7 @@ none_leads action e asks [] after h = (sym h, asks [])
 none_leads action e asks (r ∷ rs) after h = absurd h
 
 -- a word that is no command, of whose refusal nothing was seen
-pub word_leads : LeadTo smallest_caps 9 ((Refuse BadCommand, nothing_seen) ∷ []) (Ask event.Poll) smallest_device_at_first
+pub word_leads : LeadTo smallest_caps 9 ((Refuse no_command, nothing_seen) ∷ []) (Ask event.Poll) smallest_device_at_first
     (Ok event.Poll)
 word_leads [] after h = absurd h
 word_leads (Stepped x ∷ rs) after h = absurd (let other = h.1.answers in cc)
@@ -139,14 +141,14 @@ poll_differs =
     poll_not_active = refl
 
 -- a word that is no command is not answered `nothing`
-pub not_answered_so : (records : List Record) → AreOf [] (Refuse BadCommand ∷ []) records
+pub not_answered_so : (records : List Record) → AreOf [] (Refuse no_command ∷ []) records
     → AreShown (answered (codes "nothing") ∷ []) records → ⊥
 unfolding digits
 not_answered_so [] of shown = of
 not_answered_so (Stepped step ∷ records) of shown = absurd (let other = of.0 in cc)
 not_answered_so (Refused fault ∷ records) of shown =
     let asked = of.0 in
-    let same : fault ≡ BadCommand = cc in
-    let shown : shows (answered (codes "nothing")) (Refused BadCommand) ≡ true =
+    let same : fault ≡ no_command = cc in
+    let shown : shows (answered (codes "nothing")) (Refused no_command) ≡ true =
     subst (λ f. shows (answered (codes "nothing")) (Refused f) ≡ true) same shown.0 in
     absurd cc

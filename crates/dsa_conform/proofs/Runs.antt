@@ -23,6 +23,7 @@ use Rattle.dsa_answers.specs.Alike.{without_cell, given_after, ticket_named}
 use Rattle.dsa_answers.proofs.{Alike.{alike-next}, Given.{given-next, given-opening, name-of_named, ticket-of_named}}
 use Rattle.dsa_device.specs.Running.{Running, running_at_first, running_after, after_answer, IsReplay}
 use Rattle.dsa_device.proofs.{Known.{well_formed}, Steps.{answered_by_cases, answered-replay, grows}}
+use Rattle.dsa_scenario.specs.declared.actions.BadWord.{BadWord}
 use Rattle.dsa_scenario.specs.declared.actions.Action.{Action, TheVariants.{Ask, Finish, Refuse}}
 use Rattle.dsa_scenario.specs.declared.run.Record.{Record, TheVariants.{Stepped, Refused}}
 use Rattle.dsa_scenario.specs.{Lines.{reply_text}, Steps.{standing}}
@@ -283,7 +284,7 @@ seen_same s t e f r q ask same =
 
 -- ---- actions that a document can ask
 
-event_in : Event → Result Event Fault → Event
+event_in : Event → Result Event BadWord → Event
 event_in d (Ok e) = e
 event_in d (Err fault) = d
 
@@ -317,7 +318,7 @@ ask_alike b c s t (Finish engine name outcome) e f named h k first second =
     (subst (λ y. AskAlike s t y (event.Finish engine (ticket_named hs name) outcome)) p both)
 ask_alike b c s t (Refuse fault) e f named h k first second = absurd cc
 
-fault_in : Fault → Result Event Fault → Fault
+fault_in : BadWord → Result Event BadWord → BadWord
 fault_in d (Ok e) = d
 fault_in d (Err fault) = fault
 

@@ -5,7 +5,6 @@ use Rattle.std.proofs.Common.{◌++◌, Option, Some, None, Result, Ok, Err}
 use Rattle.std.proofs.Common.{refl, sym, ap, subst, length, ◌∙◌}
 use Rattle.std.specs.Prelude.{codes, decimal, is_ok, ◌&&◌, ◌||◌, bytes_eq}
 use Rattle.dsa_base.{specs.Rows.{passes}, proofs.Tables.{not-both}}
-use Rattle.dsa_regs.specs.declared.Fault.{Fault}
 use Rattle.dsa_book.specs.declared.answer.{Ticket.{Ticket}, SubmitAnswer.TheVariants.{Accepted}}
 use Rattle.dsa_book.specs.declared.answer.{DispatchAnswer.TheVariants.{Taken}, FetchAnswer.TheVariants.{Fetched}}
 use Rattle.dsa_book.specs.declared.answer.Reply.{Reply, TheVariants.{Submit, Dispatch, Fetch}}
@@ -15,6 +14,7 @@ use Rattle.dsa_book.proofs.EqualReplies.{equal-replies}
 use Rattle.dsa_answers.specs.Choices.{AreAlike}
 use Rattle.dsa_answers.proofs.Choices.{replies-alike}
 use Rattle.dsa_device.{specs.Running.{Running, after_answer}, proofs.Steps.{answered_by_cases}}
+use Rattle.dsa_scenario.specs.declared.actions.BadWord.{BadWord}
 use Rattle.dsa_scenario.specs.declared.run.Record.{Record, TheVariants.{Stepped, Refused}}
 use Rattle.dsa_scenario.specs.{Lines.{record_text}, Run.{answered_by, Leads}}
 use Rattle.dsa_conform.specs.Seen.{nameless_text, answer_shown, zf_of, zf_of_step, zf_shown, is_flag}
@@ -92,11 +92,11 @@ replies_look_alike now t u e a b none h k =
     (λ ticket q is. none room ticket q s (rw is at n))))
 
 -- what is asked, where it is an event, or the refusal of a word
-abbrev pub event_in : Event → Result Event Fault → Event
+abbrev pub event_in : Event → Result Event BadWord → Event
 event_in d (Ok e) = e
 event_in d (Err fault) = d
 
-abbrev fault_in : Fault → Result Event Fault → Fault
+abbrev fault_in : BadWord → Result Event BadWord → BadWord
 fault_in d (Ok e) = d
 fault_in d (Err fault) = fault
 
@@ -116,7 +116,7 @@ only_entry now t u e a room same h (Stepped x) asked leads =
     (λ s' free' n'. ap (stepped e) (same x.reply (replies-alike now.state s s' e a x.reply n n')))))
 
 -- where no entry is taken there is one answer
-pub one_answer : (now : Running) (asked : Result Event Fault) → ((e : Event) → asked ≡ Ok e → NoneTaken now e)
+pub one_answer : (now : Running) (asked : Result Event BadWord) → ((e : Event) → asked ≡ Ok e → NoneTaken now e)
     → HasOneAnswer now asked
 one_answer now asked none (Stepped x) (Stepped y) h k =
     let same : x.event ≡ y.event = ap (event_in x.event) (h.answers ∙ sym k.answers) in

@@ -22,7 +22,7 @@ use Rattle.dsa_conform.proofs.{Objects.{IsReadAt, read_at, count_read}, Walks.{r
 use Rattle.dsa_conform.proofs.NamedEnds.{observed_named, all_named, take_named}
 
 -- what is read of an item is what was parsed of it
-parsed : (observed : List (Action × Seen)) (i : ℕ) (v : Value) (here : Action × Seen) (at : IsReadAt observed i v)
+pub parsed : (observed : List (Action × Seen)) (i : ℕ) (v : Value) (here : Action × Seen) (at : IsReadAt observed i v)
     → Some here ≡ observation_of (view v) → at.here ≡ here
 parsed observed i v here at h = same_Some at.here here (sym at.reads ∙ sym h)
 

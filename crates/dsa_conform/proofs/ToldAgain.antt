@@ -8,6 +8,7 @@ use Rattle.serde_json.specs.{View.{view}, declared.value.Value.{Value}}
 use Rattle.dsa_regs.specs.declared.{Caps.{Caps}, Fault.{Fault}}
 use Rattle.dsa_book.specs.declared.{answer.Ticket.{Ticket}, event.Event.{Event}}
 use Rattle.dsa_device.specs.Running.{Running}
+use Rattle.dsa_scenario.specs.declared.actions.BadWord.{BadWord}
 use Rattle.dsa_scenario.specs.declared.{actions.Action.{Action}, run.Record.{Record}}
 use Rattle.dsa_scenario.specs.declared.faults.ScenarioFault.{ScenarioFault}
 use Rattle.dsa_scenario.specs.declared.faults.ScenarioFault.TheVariants as fault
@@ -16,15 +17,15 @@ use Rattle.dsa_scenario.specs.Steps.{Visit, visit, visits, IsTextOfRun}
 use Rattle.dsa_scenario.proofs.{Streams.{with_page}, Walks.{one_more, text_of_run}}
 use Rattle.dsa_conform.specs.Run.{AreAllRead, AreRead, IsFollowedTo, IsVerdict}
 use Rattle.dsa_conform.specs.Seen.{Seen, nothing_seen, observation_of}
-use Rattle.dsa_conform.specs.AsSeen.{ShowAll, seen_before, count_shown, IsFarthest, IsStepMade}
+use Rattle.dsa_conform.specs.AsSeen.{ShowAll, seen_before, count_shown, IsFarthest, IsReadFarthest, IsStepMade}
 use Rattle.dsa_conform.specs.AsSeen.{IsPageShown, IsPageTo}
 use Rattle.dsa_conform.proofs.{Objects.{count_read}, Steps.{read_to}, Walks.{shown-push}}
 
 -- one step more, on the page too
 pub page_more : {Page : Type 0} (is_page : List Visit → Page → Type 0)
-    (told_before : Running → Result Event Fault → List ℕ) (caps : Caps) (capacity : ℕ) (now new : Running)
+    (told_before : Running → Result Event BadWord → List ℕ) (caps : Caps) (capacity : ℕ) (now new : Running)
     (done : List (Action × Seen)) (here : Action × Seen) (number : ℕ) (tickets more : List Ticket) (page longer : Page)
-    (told : List ℕ) (entry : Record) (asked : Result Event Fault)
+    (told : List ℕ) (entry : Record) (asked : Result Event BadWord)
     → ((before : List Record) → IsTable (slice_get tickets) before → asked ≡ event_of before here.0)
     → told ≡ told_before now asked → IsStepMade now tickets here.0 here.1 entry new more
     → ((steps : List Visit) → (before : Running) → told ≡ told_before before (answered_by entry) → is_page steps page
@@ -157,3 +158,17 @@ reached_to caps capacity vs (Some (fault.Differs i)) text h =
       inside = omega (arith, whole, within);
     }
 reached_to caps capacity vs (Some _) text h = absurd h
+
+-- that is how far a comparison has come
+pub farthest_of : (caps : Caps) (capacity : ℕ) (vs : List Value) (f : Option ScenarioFault) (text : List ℕ) (count : ℕ)
+    → IsVerdict caps capacity (map view vs) f text → count ≡ count_shown (length vs) f
+    → IsReadFarthest caps capacity (map view vs) count × (count ≤ length vs)
+farthest_of caps capacity vs f text count h is =
+    let to = reached_to caps capacity vs f text h in (
+      record {
+        observed = to.observed;
+        read = to.read;
+        farthest = subst (λ n. IsFarthest caps capacity to.observed n) (sym is) to.farthest;
+      },
+      subst (λ n. n ≤ length vs) (sym is) to.inside,
+    )

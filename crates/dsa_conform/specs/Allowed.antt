@@ -4,18 +4,18 @@ use Rattle.dsa_book.specs.declared.event.Event.TheVariants as event
 use Rattle.std.specs.Prelude.{◌≡◌, ◌<◌, ℕ, false, true, cond, List, [], ◌∷◌, map, filter_map, Option, None, ⊤}
 use Rattle.std.specs.Prelude.{option_map, Result, Ok, All, Contains}
 use Rattle.dsa_base.specs.Numbers.{numbers_below}
-use Rattle.dsa_regs.specs.declared.Fault.{Fault}
 use Rattle.dsa_book.specs.declared.{event.Event.{Event}, answer.{Ticket.{Ticket}, Reply.{Reply}}}
 use Rattle.dsa_book.specs.declared.answer.DispatchAnswer.TheVariants.{Taken}
 use Rattle.dsa_book.specs.{State.{Work, ticket_of_entry}, Work.{qualifies, front_of}}
 use Rattle.dsa_device.specs.Running.{Running}
+use Rattle.dsa_scenario.specs.declared.actions.BadWord.{BadWord}
 use Rattle.dsa_scenario.specs.declared.run.Record.{Record, TheVariants.{Stepped, Refused}}
 use Rattle.dsa_scenario.specs.{Lines.{record_text}, Run.{answered_by, Leads}}
 use Rattle.dsa_conform.specs.declared.following.Followed.{Followed, TheVariants.{Shown, Differs}}
 use Rattle.dsa_conform.specs.Seen.{Seen, shows}
 
 -- a device that stands so may answer this to what is asked of it (profile)
-pub record IsAllowed (now : Running) (asked : Result Event Fault) (entry : Record) : Type 0 where
+pub record IsAllowed (now : Running) (asked : Result Event BadWord) (entry : Record) : Type 0 where
   pub answers : answered_by entry ≡ asked
   pub after : Running
   pub leads : Leads now entry after
@@ -36,13 +36,13 @@ IsAscending (entry ∷ entries) = All (λ later. queue_taken entry < queue_taken
 
 -- each of these may be answered, and what may be answered has the text of one of them; where an entry may be
 -- taken from more than one queue, these are told in ascending order, and else there is one answer (profile)
-pub record AreAllowed (now : Running) (asked : Result Event Fault) (allowed : List Record) : Type 0 where
+pub record AreAllowed (now : Running) (asked : Result Event BadWord) (allowed : List Record) : Type 0 where
   pub each : All (IsAllowed now asked) allowed
   pub all : (entry : Record) → IsAllowed now asked entry → Contains (map record_text allowed) (record_text entry)
   pub order : IsAscending allowed
 
 -- no answer that is allowed shows what was seen (profile)
-abbrev pub NoneShows : Running → Result Event Fault → Seen → Type 0
+abbrev pub NoneShows : Running → Result Event BadWord → Seen → Type 0
 NoneShows now asked seen = (entry : Record) → IsAllowed now asked entry → shows seen entry ≡ false
 
 -- ---- what an engine may take
@@ -61,7 +61,7 @@ offers w e = filter_map (offer w e) (numbers_below w.setup.caps.queues)
 -- ---- one step
 
 -- an engine is not asked to take an entry
-abbrev pub IsNoDispatch : Result Event Fault → Type 0
+abbrev pub IsNoDispatch : Result Event BadWord → Type 0
 IsNoDispatch (Ok (event.Dispatch e)) = ⊥
 IsNoDispatch _ = ⊤
 
@@ -71,19 +71,19 @@ pub record AreSeenAlike (first second : Record) : Type 0 where
   pub shown : (seen : Seen) → shows seen first ≡ shows seen second
 
 -- whatever may be answered looks the same
-abbrev pub HasOneAnswer : Running → Result Event Fault → Type 0
+abbrev pub HasOneAnswer : Running → Result Event BadWord → Type 0
 HasOneAnswer now asked = (first second : Record) → IsAllowed now asked first → IsAllowed now asked second
     → AreSeenAlike first second
 
 -- the device has gone on by an answer that is allowed and shows what was seen, or none that is allowed shows it
-abbrev pub IsFollowed : Running → Result Event Fault → Seen → Running → Followed → Type 0
+abbrev pub IsFollowed : Running → Result Event BadWord → Seen → Running → Followed → Type 0
 IsFollowed now asked seen new (Shown entry) =
     (answered_by entry ≡ asked) × Leads now entry new × (shows seen entry ≡ true)
 IsFollowed now asked seen new (Differs allowed) =
     AreAllowed now asked allowed.items × NoneShows now asked seen × ((entry : Record) × IsAllowed now asked entry)
 
 -- the device has gone on by an answer that is allowed, and that shows what was seen unless none does (profile)
-pub record IsClosest (now : Running) (asked : Result Event Fault) (seen : Seen) (new : Running) (entry : Record)
+pub record IsClosest (now : Running) (asked : Result Event BadWord) (seen : Seen) (new : Running) (entry : Record)
     : Type 0 where
   pub answers : answered_by entry ≡ asked
   pub leads : Leads now entry new

@@ -1,6 +1,7 @@
 -- The run that a comparison follows, and what is made of it.
-use Rattle.std.specs.Prelude.{◌≡◌, ◌⊎◌, ℕ, zero, suc, true, List, [], ◌∷◌, ◌++◌, length, map, take, filter_map, slice_get}
-use Rattle.std.specs.Prelude.{Option, Some, None}
+use Rattle.std.specs.Prelude.{◌≡◌, ◌⊎◌, ℕ, zero, suc, true, List, [], ◌∷◌, ◌++◌, length, map, take, filter_map}
+use Rattle.std.specs.Prelude.{slice_get}
+use Rattle.std.specs.Prelude.{Option, Some, None, Bool, false}
 use Rattle.serde_json.specs.Data.{Data}
 use Rattle.dsa_regs.specs.declared.Caps.{Caps}
 use Rattle.dsa_book.specs.declared.answer.Ticket.{Ticket}
@@ -8,7 +9,8 @@ use Rattle.dsa_device.specs.Running.{Running}
 use Rattle.dsa_scenario.specs.declared.{actions.Action.{Action}, run.Record.{Record}}
 use Rattle.dsa_scenario.specs.declared.faults.ScenarioFault.{ScenarioFault, TheVariants.{Differs}}
 use Rattle.dsa_scenario.specs.Run.{ticket_given_by, event_of, answered_by, IsTable, Leads}
-use Rattle.dsa_scenario.specs.Steps.{Visit, IsWalkTo, IsTextOfRun}
+use Rattle.dsa_scenario.specs.Steps.{standing, Visit, IsWalkTo, IsTextOfRun}
+use Rattle.dsa_conform.specs.Allowed.{IsAllowed}
 use Rattle.dsa_conform.specs.Run.{AreRead, IsShownRun, IsToldOf}
 use Rattle.dsa_conform.specs.Seen.{Seen, nothing_seen, shows, AreShown}
 
@@ -27,6 +29,20 @@ abbrev pub IsFarthest : Caps → ℕ → List (Action × Seen) → ℕ → Type 
 IsFarthest caps capacity observed count = (count ≡ length observed)
     ⊎ ((here : Action × Seen) × (slice_get observed count ≡ Some here)
     × ((records : List Record) → ¬ IsShownRun caps capacity (take count observed ++ here ∷ []) records))
+
+-- the steps are read, and so many of the first may be answered as was seen
+pub record IsReadFarthest (caps : Caps) (capacity : ℕ) (steps : List Data) (count : ℕ) : Type 0 where
+  pub observed : List (Action × Seen)
+  pub read : AreRead steps observed
+  pub farthest : IsFarthest caps capacity observed count
+
+-- a run shows what was seen of the first steps, so many, and of the next one it may be answered what does not show it
+-- (profile)
+pub record IsShownUpTo (caps : Caps) (capacity : ℕ) (observed : List (Action × Seen)) (count : ℕ) : Type 0 where
+  pub records : List Record
+  pub run : IsShownRun caps capacity (take count observed) records
+  pub next : (here : Action × Seen) → slice_get observed count ≡ Some here → (entry : Record)
+      × IsAllowed (standing caps capacity records) (event_of records here.0) entry × (shows here.1 entry ≡ false)
 
 -- the text is made of a run of the steps that shows what was seen of the first, and of as many as any run does
 -- (profile)
@@ -64,6 +80,15 @@ pub record IsStepMade (now : Running) (tickets : List Ticket) (action : Action) 
   pub leads : Leads now entry new
   pub noted : more ≡ tickets ++ filter_map ticket_given_by (entry ∷ [])
   pub shown : shows seen entry ≡ true
+
+-- a device has made one step by itself, and this is whether its answer shows what was seen
+pub record IsStepTried (now : Running) (tickets : List Ticket) (action : Action) (seen : Seen) (is_shown : Bool)
+    (new : Running) (more : List Ticket) : Type 0 where
+  pub entry : Record
+  pub answers : (before : List Record) → IsTable (slice_get tickets) before → answered_by entry ≡ event_of before action
+  pub leads : Leads now entry new
+  pub noted : more ≡ tickets ++ filter_map ticket_given_by (entry ∷ [])
+  pub shown : is_shown ≡ shows seen entry
 
 -- the page is of these steps, and their answers show this
 abbrev pub IsPageShown : {Page : Type 0} → (List Visit → Page → Type 0) → List Visit → Page × List Seen → Type 0

@@ -1,5 +1,5 @@
 -- The forms of the lines that are printed.
-use Rattle.std.specs.Prelude.{◌≡◌, ℕ, suc, true, List, [], ◌∷◌, ◌++◌, replicate, codes, Option, Some, None}
+use Rattle.std.specs.Prelude.{◌≡◌, ℕ, suc, true, List, [], ◌∷◌, ◌++◌, flat_map, replicate, codes, Option, Some, None}
 use Rattle.std.specs.List.{list_all}
 use Rattle.dsa_scenario.specs.declared.faults.ScenarioFault.{ScenarioFault, TheVariants.{BadStep, Differs}}
 use Rattle.dsa_conform.specs.Quoted.{is_printable}
@@ -26,3 +26,14 @@ IsReport None text = AreLinesWith (codes "conforms: " ∷ []) text
 IsReport (Some (Differs i)) text = (allowed : ℕ) × AreLinesWith (words_of_difference (suc allowed)) text
 IsReport (Some (BadStep i)) text = text ≡ []
 IsReport _ text = ⊥
+
+-- the lines of each step that differs, which are one at least, and of how many do (profile)
+abbrev pub AreLinesOfAll : List ℕ → Type 0
+AreLinesOfAll text = (first : ℕ) × (more : List ℕ)
+    × AreLinesWith (flat_map (λ allowed. words_of_difference (suc allowed)) (first ∷ more) ++ codes "differs: " ∷ [])
+    text
+
+-- the same of a document with every step that differs (profile)
+abbrev pub IsFullReport : Option ScenarioFault → List ℕ → Type 0
+IsFullReport (Some (Differs i)) text = AreLinesOfAll text
+IsFullReport fault text = IsReport fault text

@@ -4,6 +4,7 @@ pub mod Quoted
 pub mod Lines
 pub mod Run
 pub mod AsSeen
+pub mod Every
 pub mod Ways
 pub mod ToldLines
 pub mod Forms

@@ -65,7 +65,7 @@ nameless_reply answer = reply_text answer
 
 abbrev pub nameless_text : Record → List ℕ
 nameless_text (Stepped step) = nameless_reply step.reply
-nameless_text (Refused fault) = refusal_text fault
+nameless_text (Refused word) = refusal_text word.fault
 
 -- the text is the line of the answer, with or without its name (profile)
 abbrev pub answer_shown : Option (List ℕ) → Record → Bool
@@ -79,7 +79,7 @@ zf_of_step _ _ = None
 
 abbrev pub zf_of : Record → Option Bool
 zf_of (Stepped step) = zf_of_step step.event step.reply
-zf_of (Refused fault) = None
+zf_of (Refused word) = None
 
 abbrev pub is_flag : Bool → Bool → Bool
 is_flag true flag = flag

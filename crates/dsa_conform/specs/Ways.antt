@@ -7,11 +7,14 @@ use Rattle.serde_json.specs.Data.{Data}
 use Rattle.dsa_base.specs.Lists.{In}
 use Rattle.dsa_regs.specs.{declared.{Caps.{Caps}, Fault.{Fault}}, Config.{queue_at}}
 use Rattle.dsa_store.specs.{declared.entry.Entry.{Entry}, Content.{HeldEntry, chain}}
-use Rattle.dsa_book.specs.declared.{answer.{Reply.{Reply}, DispatchAnswer.TheVariants.{Taken}}, event.{Event.{Event}, Step.{Step}}}
+use Rattle.dsa_book.specs.declared.{answer.{Reply.{Reply}, DispatchAnswer.TheVariants.{Taken}}}
+use Rattle.dsa_book.specs.declared.{event.{Event.{Event}, Step.{Step}}}
 use Rattle.dsa_book.specs.{State.{Work, phase_at}, Work.{in_progress, members, note_at}}
 use Rattle.dsa_answers.specs.Alike.{AreStatesAlike}
 use Rattle.dsa_device.specs.Running.{Running, running_at_first}
-use Rattle.dsa_scenario.specs.declared.{actions.Action.{Action, TheVariants.{Ask}}, run.Record.{Record, TheVariants.{Stepped, Refused}}}
+use Rattle.dsa_scenario.specs.declared.actions.BadWord.{BadWord}
+use Rattle.dsa_scenario.specs.declared.{actions.Action.{Action, TheVariants.{Ask}}}
+use Rattle.dsa_scenario.specs.declared.{run.Record.{Record, TheVariants.{Stepped, Refused}}}
 use Rattle.dsa_scenario.specs.Run.{event_of, answered_by, Leads}
 use Rattle.dsa_explain_lines.specs.Parts.{part_of}
 use Rattle.dsa_conform.specs.declared.{way.Way.{Way}, told.Told.{Told}}
@@ -61,18 +64,18 @@ abbrev pub queues_taken : List Step → List ℕ
 queues_taken steps = filter_map (λ step. queue_of_reply step.reply) steps
 
 -- all answers that are allowed and show what was seen tell of the same queue, or of none
-abbrev pub IsOneWay : Running → Result Event Fault → Seen → Type 0
+abbrev pub IsOneWay : Running → Result Event BadWord → Seen → Type 0
 IsOneWay now asked seen = (first second : Record) → IsAllowed now asked first → IsAllowed now asked second
     → shows seen first ≡ true → shows seen second ≡ true → queue_of_record first ≡ queue_of_record second
 
 -- an answer that is allowed and shows what was seen tells of this queue
-abbrev pub IsTakenAsSeen : Running → Result Event Fault → Seen → ℕ → Type 0
+abbrev pub IsTakenAsSeen : Running → Result Event BadWord → Seen → ℕ → Type 0
 IsTakenAsSeen now asked seen queue = (entry : Record) × IsAllowed now asked entry × (shows seen entry ≡ true)
     × (queue_of_record entry ≡ Some queue)
 
 -- each answer that is allowed and shows what was seen tells of one of these queues, and each of these is told of;
 -- where there are none, all tell of the same queue, or of none
-abbrev pub IsFork : Running → Result Event Fault → Seen → List ℕ → Type 0
+abbrev pub IsFork : Running → Result Event BadWord → Seen → List ℕ → Type 0
 IsFork now asked seen [] = IsOneWay now asked seen
 IsFork now asked seen queues = ((entry : Record) → IsAllowed now asked entry → shows seen entry ≡ true
     → (queue : ℕ) × In queue queues × (queue_of_record entry ≡ Some queue))
@@ -85,12 +88,12 @@ abbrev pub IsAmong : Running → List Way → Type 0
 IsAmong now ways = (way : Way) × In way ways × AreDevicesAlike now way.device
 
 -- however a device goes on by an answer that shows what was seen, it is then alike one of these
-abbrev pub Covers : Running → Result Event Fault → Seen → List Way → Type 0
+abbrev pub Covers : Running → Result Event BadWord → Seen → List Way → Type 0
 Covers now asked seen ways = (entry : Record) → (after : Running) → answered_by entry ≡ asked
     → Leads now entry after → shows seen entry ≡ true → IsAmong after ways
 
 -- what a device allows and why, and none of it shows what was seen
-pub record IsTold (now : Running) (asked : Result Event Fault) (seen : Seen) (told : Told) : Type 0 where
+pub record IsTold (now : Running) (asked : Result Event BadWord) (seen : Seen) (told : Told) : Type 0 where
   pub why : string_bytes told.why ≡ part_of now asked
   pub all : AreAllowed now asked told.allowed.items
   pub some : Record
@@ -148,7 +151,7 @@ pub record IsReadTo (steps : List Data) (observed : List (Action × Seen)) (numb
   pub is_named : IsNamedEnd here.0
 
 -- a device that has come so far, one step later: all that may come of the step is alike, or it tells what it allows
-abbrev pub IsOn : Running → Result Event Fault → Seen → Way → Option Told → Type 0
+abbrev pub IsOn : Running → Result Event BadWord → Seen → Way → Option Told → Type 0
 IsOn now asked seen new None = Covers now asked seen (new ∷ []) × ((entry : Record) × IsAllowed now asked entry)
 IsOn now asked seen new (Some told) = IsTold now asked seen told
 
@@ -184,7 +187,7 @@ pub record AreAdded (caps : Caps) (capacity : ℕ) (steps : List Data) (number :
 -- what has become of one device in a step: what may come of it is among those that go on, or it is told what it
 -- allows
 pub record IsGone (caps : Caps) (capacity : ℕ) (done : List (Action × Seen)) (here : Action × Seen) (number : ℕ)
-    (now : Running) (asked : Result Event Fault) (old : List Way) (before : List Told) (new : List Way)
+    (now : Running) (asked : Result Event BadWord) (old : List Way) (before : List Told) (new : List Way)
     (after : List Told) : Type 0 where
   pub each : (other : Way) → In other new → In other old
       ⊎ IsFollowedTo caps capacity (done ++ here ∷ []) (number + 1) other.device other.tickets.items
@@ -204,7 +207,7 @@ IsGoneOn caps capacity steps here number way old before new after = (observed : 
     new after
 
 -- the same of one device among several that were followed
-pub record IsOneGone (now : Running) (asked : Result Event Fault) (seen : Seen) (new : List Way) (tolds : List Told)
+pub record IsOneGone (now : Running) (asked : Result Event BadWord) (seen : Seen) (new : List Way) (tolds : List Told)
     : Type 0 where
   pub covers : Covers now asked seen new
   pub may : (entry : Record) × IsAllowed now asked entry

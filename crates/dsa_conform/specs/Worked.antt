@@ -15,13 +15,15 @@ use Rattle.dsa_desc.specs.declared.Outcome.TheVariants.{Success}
 use Rattle.dsa_device.specs.Running.{Running, running_at_first}
 use Rattle.dsa_regs.specs.declared.{Caps.{Caps}, QueueConfig.{QueueConfig}, Fault.TheVariants.{BadCommand}}
 use Rattle.dsa_regs.specs.declared.Command.TheVariants.{EnableDevice, EnableWq}
+use Rattle.dsa_scenario.specs.Worked.{no_command}
 use Rattle.dsa_scenario.specs.declared.actions.Action.{Action, TheVariants.{Ask, Finish, Refuse}}
 use Rattle.dsa_scenario.specs.declared.run.Record.{Record, TheVariants.{Stepped, Refused}}
 use Rattle.dsa_scenario.specs.{Steps.{standing}, Worked.{record_ticket, stepped, fill, caps_of_a_run, queue_of_a_run}}
 use Rattle.dsa_scenario.specs.Worked.{group_of_a_run, records_of_a_run, submission_of_a_run, smallest_caps}
 use Rattle.json.specs.Print.{escape_byte}
 use Rattle.dsa_scenario.specs.Worked.{smallest_caps_text, document_text, digits_on_literals}
-use Rattle.dsa_conform.specs.{declared.{told.{Line.{Line}, Told.{Told}}, way.Way.{Way}}, Seen.{Seen, nothing_seen}, Ways.{RunFrom}}
+use Rattle.dsa_conform.specs.{declared.{told.{Line.{Line}, Told.{Told}}, way.Way.{Way}}, Seen.{Seen, nothing_seen}}
+use Rattle.dsa_conform.specs.{Ways.{RunFrom}}
 
 -- the text of an answer was seen
 abbrev pub answered : List ℕ → Seen
@@ -62,7 +64,7 @@ observed_of_a_run =
     (Ask (event.WriteGroup 0 group_of_a_run), answered (codes "written")) ∷
     (Ask (event.Issue EnableDevice), nothing_seen) ∷
     (Ask (event.Issue (EnableWq 0)), answered (codes "ended 0")) ∷
-    (Refuse BadCommand, answered (codes "refused 13 BadCommand")) ∷
+    (Refuse no_command, answered (codes "refused 13 BadCommand")) ∷
     (Ask submission_of_a_run, record { answer = Some (codes "accepted"); zf = Some false }) ∷
     (Ask (event.Dispatch 0), answered (codes "taken from 0")) ∷
     (Finish 0 0 Success, answered (codes "done 01")) ∷
@@ -206,7 +208,7 @@ polled_with seen = (Ask event.Poll, seen) ∷ []
 
 -- a word that is no command, and then such a poll
 abbrev pub refused_then_polled : Seen → List (Action × Seen)
-refused_then_polled seen = (Refuse BadCommand, nothing_seen) ∷ polled_with seen
+refused_then_polled seen = (Refuse no_command, nothing_seen) ∷ polled_with seen
 
 -- an answer to it, and the line of the one that it may have
 abbrev pub poll_record : PollAnswer → Record

@@ -1,10 +1,11 @@
 //! A document in, what is made of its run as it was seen out.
 
-ghost use Rattle.std.specs.Prelude.{◌≤◌, map, length};
+ghost use Rattle.std.specs.Prelude.{◌≡◌, ◌≤◌, IfOk, map, length};
 ghost use Rattle.serde_json.specs.View.{view};
 ghost use Rattle.dsa_conform.specs.Run.{AreAllRead};
-ghost use Rattle.dsa_conform.specs.AsSeen.{IsMadeAsSeen, IsToldAsSeen};
+ghost use Rattle.dsa_conform.specs.AsSeen.{IsMadeAsSeen, IsReadFarthest, IsToldAsSeen};
 
+use crate::alone::count_alone;
 use crate::rendering::{TellSteps, render_told};
 use crate::retelling::{count_shown, retell};
 use crate::walk::{Verdict, walk_steps};
@@ -14,8 +15,9 @@ use std::alloc::{AllocError, Global};
 
 /// What is made of a run of a document that shows what was seen, as a way to make a text of it.
 ///
-/// It is the run that a comparison follows. Where no run shows what was seen of a step, it shows
-/// what was seen of those before, and goes on as the device does by itself.
+/// It is the device's own run, if that shows what was seen, and else one that a comparison follows.
+/// Where no run shows what was seen of a step, it shows what was seen of those before, and goes on
+/// as the device does by itself.
 #[derive(Clone, Copy, Debug, Drop)]
 pub struct AsSeen<D: RenderSteps> {
     /// What makes the text of the run.
@@ -53,16 +55,47 @@ fn choices_before(
     queues_taken(alloc, way.device.history())
 }
 
+// How far a run goes as was seen, and the queues that it takes from in turn: by itself where none.
+#[derive(Drop)]
+struct Course {
+    count: usize,
+    choices: Vec<u16>,
+}
+
+// A run that goes as far as any, and where the device itself does so, that.
+fn farthest_course(alloc: Global, head: &Head<'_>) -> Result<Course, AllocError>
+    requires { AreAllRead (map view head.now.steps.now) }
+    ensures { IfOk result
+        (λ course. IsReadFarthest head.now.caps head.now.capacity (map view head.now.steps.now)
+        course.count) }
+{
+    let alone = count_alone(alloc, head)?;
+    if alone == head.steps.len() {
+        let choices = Vec::new(alloc);
+        return Ok(Course {
+            count: alone,
+            choices,
+        });
+    }
+    let Verdict { fault, way, .. } = walk_steps(alloc, head)?;
+    let count = count_shown(head.steps.len(), &fault);
+    if alone == count {
+        let choices = Vec::new(alloc);
+        return Ok(Course { count, choices });
+    }
+    let choices = choices_before(alloc, head, count, way)?;
+    Ok(Course { count, choices })
+}
+
 impl<D: RenderSteps> TellSteps for AsSeen<D> {
     ghost is_told = { λ seen. IsToldAsSeen (D.is_text seen.what) };
 
     ghost reads_all = { λ seen caps capacity steps i text h. h };
 
     fn tell(&self, alloc: Global, head: &Head<'_>) -> Result<Verdict, AllocError> {
-        let Verdict { fault, way, .. } = walk_steps(alloc, head)?;
-        let count = count_shown(head.steps.len(), &fault);
-        let choices = choices_before(alloc, head, count, way)?;
-        let text = retell(alloc, &self.what, head, count, choices.as_slice())?;
+        let course = farthest_course(alloc, head)?;
+        let choices = course.choices.as_slice();
+        let text = retell(alloc, &self.what, head, course.count, choices)?;
         Ok(Verdict {
             text,
             fault: None,

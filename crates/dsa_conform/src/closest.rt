@@ -13,8 +13,7 @@ use crate::offering::{asked_engine, find_shown};
 use crate::shown::is_shown;
 use dsa_book::Event;
 use dsa_device::Device;
-use dsa_regs::Fault;
-use dsa_scenario::{Record, ask};
+use dsa_scenario::{Asked, Record, ask};
 use dsa_store::EntryStore;
 use std::alloc::{AllocError, Global};
 
@@ -29,7 +28,7 @@ pub struct Closest {
 fn ask_closest<S: EntryStore>(
     alloc: Global,
     device: &mut Device<S>,
-    asked: &Result<Event, Fault>,
+    asked: &Asked,
     seen: &Observed<'_>,
 ) -> Result<Closest, AllocError>
     ensures gone { IfOk result
@@ -69,7 +68,7 @@ fn dispatch_closest<S: EntryStore>(
 pub fn follow_closest<S: EntryStore>(
     alloc: Global,
     device: &mut Device<S>,
-    asked: &Result<Event, Fault>,
+    asked: &Asked,
     seen: &Observed<'_>,
 ) -> Result<Closest, AllocError>
     ensures closest { IfOk result

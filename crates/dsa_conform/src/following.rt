@@ -12,8 +12,7 @@ use crate::offering::{asked_engine, find_shown, offers};
 use crate::shown::is_shown;
 use dsa_book::{Event, Reply, Step};
 use dsa_device::Device;
-use dsa_regs::Fault;
-use dsa_scenario::{Record, ask};
+use dsa_scenario::{Asked, Record, ask};
 use dsa_store::EntryStore;
 use std::alloc::{AllocError, Global};
 
@@ -31,7 +30,7 @@ pub enum Followed {
 fn follow_only<S: EntryStore>(
     alloc: Global,
     device: &mut Device<S>,
-    asked: &Result<Event, Fault>,
+    asked: &Asked,
     seen: &Observed<'_>,
 ) -> Result<Followed, AllocError>
     requires { HasOneAnswer device.old asked.now }
@@ -90,7 +89,7 @@ fn follow_engine<S: EntryStore>(
 pub fn follow<S: EntryStore>(
     alloc: Global,
     device: &mut Device<S>,
-    asked: &Result<Event, Fault>,
+    asked: &Asked,
     seen: &Observed<'_>,
 ) -> Result<Followed, AllocError>
     ensures { IfOk result

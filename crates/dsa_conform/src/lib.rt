@@ -8,9 +8,11 @@
 #![tactic(auto)]
 
 mod alike;
+mod alone;
 mod as_seen;
 mod closest;
 mod difference;
+mod every;
 mod following;
 pub mod laws;
 mod observed;

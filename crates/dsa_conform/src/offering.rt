@@ -13,8 +13,7 @@ use crate::observed::Observed;
 use crate::shown::is_shown;
 use dsa_book::{DispatchAnswer, Event, Reply, Step};
 use dsa_device::Device;
-use dsa_regs::Fault;
-use dsa_scenario::Record;
+use dsa_scenario::{Asked, Record};
 use dsa_store::EntryStore;
 use std::alloc::{AllocError, Global};
 
@@ -95,7 +94,7 @@ pub fn find_shown<S: EntryStore>(
 }
 
 /// The engine that is asked to take an entry.
-pub fn asked_engine(asked: &Result<Event, Fault>) -> Option<u16>
+pub fn asked_engine(asked: &Asked) -> Option<u16>
     ensures { MatchOption result (IsNoDispatch asked.now)
         (λ engine. asked.now ≡ Ok (event.Dispatch engine)) }
 {
@@ -211,7 +210,7 @@ fn dispatch_fork<S: EntryStore>(
 pub fn fork<S: EntryStore>(
     alloc: Global,
     device: &Device<S>,
-    asked: &Result<Event, Fault>,
+    asked: &Asked,
     seen: &Observed<'_>,
 ) -> Result<Vec<u16>, AllocError>
     ensures { IfOk result

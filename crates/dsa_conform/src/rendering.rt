@@ -6,8 +6,10 @@ ghost use Rattle.dsa_regs.specs.declared.Caps.{Caps};
 ghost use Rattle.dsa_scenario.specs.Document.{IsJson};
 ghost use Rattle.dsa_scenario.specs.declared.faults.ScenarioFault.{ScenarioFault};
 ghost use Rattle.dsa_scenario.specs.declared.faults.ScenarioFault.TheVariants.{BadStep};
-ghost use Rattle.dsa_conform.specs.Run.{AreAllRead, IsConformance, IsOtherFault, IsToldOf, IsVerdict};
+ghost use Rattle.dsa_conform.specs.Run.{AreAllRead, IsConformance, IsOtherFault, IsToldOf};
+ghost use Rattle.dsa_conform.specs.Every.{IsConformanceOf, IsVerdictOf, no_bad_step};
 
+use crate::every::walk_every;
 use crate::observed::first_unread;
 use crate::walk::{Verdict, walk_steps};
 use dsa_scenario::{
@@ -33,24 +35,34 @@ pub trait TellSteps: Drop {
 }
 
 /// Whether a document's steps may be answered as was seen, as a way to make a text of it.
+///
+/// The first step that differs is told, or all: after one, the walk goes on as if nothing had been
+/// seen of it.
 #[derive(Clone, Copy, Debug, PartialEq, Eq)]
-pub struct Conformance;
+pub struct Conformance {
+    /// Whether all steps that differ are told.
+    pub is_all: bool,
+}
 
 impl TellSteps for Conformance {
-    ghost is_told = { λ conformance. IsVerdict };
+    ghost is_told = { λ conformance. IsVerdictOf conformance.is_all };
 
-    ghost reads_all = { λ conformance caps capacity steps i text h. h };
+    ghost reads_all = { λ conformance. no_bad_step conformance.is_all };
 
     fn tell(&self, alloc: Global, head: &Head<'_>) -> Result<Verdict, AllocError> {
+        if self.is_all {
+            return walk_every(alloc, head);
+        }
         walk_steps(alloc, head)
     }
 }
 
 impl Render for Conformance {
-    ghost is_rendering = { λ conformance bytes fault text. IsConformance bytes fault text };
+    ghost is_rendering = { λ conformance bytes fault text.
+        IsConformanceOf conformance.is_all bytes fault text };
 
     fn render(&self, alloc: Global, bytes: &[u8]) -> Rendered {
-        render_conformance(alloc, bytes)
+        render_told(alloc, self, bytes)
     }
 }
 
@@ -93,5 +105,5 @@ pub fn render_conformance(alloc: Global, bytes: &[u8]) -> Rendered
     ensures err { IfErr result (λ e. (e ≡ ScenarioFault.OutOfMemory) ⊎ IsOtherFault bytes.now e) }
     ensures held { IfOk result (λ r. IfSome r.document (λ value. IsJson bytes.now (view value))) }
 {
-    render_told(alloc, &Conformance, bytes)
+    render_told(alloc, &Conformance { is_all: false }, bytes)
 }

@@ -16,6 +16,8 @@ ghost use Rattle.dsa_book.specs.declared.event.Event.TheVariants as event;
 ghost use Rattle.dsa_book.specs.declared.event.Kind.TheVariants.{Enqcmd, Movdir64b};
 ghost use Rattle.dsa_regs.specs.declared.Fault.TheVariants.{BadCommand, Busy};
 ghost use Rattle.dsa_device.specs.Running.{running_at_first};
+ghost use Rattle.dsa_scenario.specs.Worked.{bad_word};
+ghost use Rattle.dsa_scenario.specs.Worked.{no_command};
 ghost use Rattle.dsa_scenario.specs.declared.actions.Action.TheVariants.{Ask, Finish, Refuse};
 ghost use Rattle.dsa_desc.specs.declared.Outcome.TheVariants.{Success};
 ghost use Rattle.dsa_scenario.specs.declared.faults.ScenarioFault.TheVariants.{NotJson, BadStep, BadCaps, Differs};
@@ -27,10 +29,12 @@ ghost use Rattle.dsa_conform.specs.declared.following.Followed.TheVariants.{Show
 ghost use Rattle.dsa_conform.specs.Seen.{nothing_seen, seen_of, observation_of, seen_as, shows, zf_of, is_seen, AreShown};
 ghost use Rattle.dsa_conform.specs.Allowed.{IsAllowed, AreAllowed, IsAscending, NoneShows, AreSeenAlike, HasOneAnswer, IsNoDispatch, IsFollowed, offers, queue_taken};
 ghost use Rattle.std.specs.Str.{encode_utf8_all};
-ghost use Rattle.dsa_conform.specs.{Forms.{words_of_difference, IsLineWith, IsReport}, Quoted.{seen_text}};
+ghost use Rattle.dsa_conform.specs.{Forms.{words_of_difference, IsFullReport, IsLineWith, IsReport}, Quoted.{seen_text}};
 ghost use Rattle.dsa_conform.specs.Lines.{AreListed, allowed_line, conforms_text, seen_count, seen_line, difference_text};
 ghost use Rattle.dsa_conform.specs.Run.{IsShownRun, IsAllowedLine, IsReason, AreAllLines, IsDifference, AreRead, IsUnreadAt, IsConforming, IsDiffering, IsConformance, IsFollowedTo, IsOtherFault};
-ghost use Rattle.dsa_conform.specs.AsSeen.{count_shown, seen_before, IsFarthest, IsMadeAsSeen, IsTextAsSeen, IsToldAsSeen};
+ghost use Rattle.dsa_conform.specs.AsSeen.{count_shown, seen_before, IsFarthest, IsShownUpTo, IsMadeAsSeen, IsTextAsSeen, IsToldAsSeen};
+ghost use Rattle.dsa_conform.specs.Every.{AreDifferences, AreDiffering, IsFullVerdict, IsVerdictOf, differs_text, unseen_at};
+ghost use Rattle.dsa_regs.specs.declared.Caps.{Caps};
 ghost use Rattle.dsa_conform.specs.declared.{told.Told.{Told}, way.Way.{Way}};
 ghost use Rattle.dsa_book.specs.declared.answer.Ticket.{Ticket};
 ghost use Rattle.dsa_conform.specs.ToldLines.{AddsLines, AreLinesTold, HasText, IsLineOf, IsLinePlaced, IsPlaceOf, IsTextTold};
@@ -94,10 +98,10 @@ pub fn lines()
         (stepped (event.Start 0) (reply.Start (Started (record_ticket 1 2))))
         ≡ true }
     ensures refused { map (λ fault. shows (answered (codes "refused 13 BadCommand"))
-        (Refused fault)) (BadCommand ∷ Busy ∷ [])
+        (Refused (record { word = 5; fault = fault }))) (BadCommand ∷ Busy ∷ [])
         ≡ true ∷ false ∷ [] }
     ensures anything { shows nothing_seen (record_of_a_take 7 1) ≡ true }
-    ensures no_fault { shows (answered (codes "refused")) (Refused BadCommand) ≡ false }
+    ensures no_fault { shows (answered (codes "refused")) (Refused no_command) ≡ false }
     ensures empty { shows (answered []) (by_enqcmd Full) ≡ false }
 {}
 
@@ -114,7 +118,7 @@ pub fn flags()
     ensures no_submission { shows (flagged true) (record_of_a_take 7 1) ≡ false }
     ensures unreported { map zf_of
         (record_of_a_take 7 1
-        ∷ Refused BadCommand
+        ∷ Refused no_command
         ∷ by_enqcmd Full
         ∷ by_movdir (Accepted (record_ticket 3 12))
         ∷ [])
@@ -154,7 +158,7 @@ pub fn offered()
         })
         0
         ≡ from_first ∷ from_second ∷ [] }
-    ensures queues { map queue_taken (from_second ∷ Refused BadCommand ∷ by_enqcmd Full ∷ [])
+    ensures queues { map queue_taken (from_second ∷ Refused no_command ∷ by_enqcmd Full ∷ [])
         ≡ 2 ∷ 0 ∷ 0 ∷ [] }
 {}
 
@@ -177,7 +181,7 @@ pub fn alike()
     ensures one { HasOneAnswer smallest_device_at_first (Ok event.Poll) }
     ensures either { ¬ HasOneAnswer after_all (Ok (event.Dispatch 0)) }
     ensures poll { IsNoDispatch (Ok event.Poll) }
-    ensures word { IsNoDispatch (Err BadCommand) }
+    ensures word { IsNoDispatch (Err no_command) }
     ensures dispatch { ¬ IsNoDispatch (Ok (event.Dispatch 1)) }
 {}
 
@@ -191,8 +195,9 @@ pub fn allowed()
         (stepped (event.Dispatch 0) (reply.Dispatch Idle)) }
     ensures other_event { ¬ IsAllowed after_all (Ok (event.Dispatch 0))
         (poll_record Nothing) }
-    ensures word { IsAllowed smallest_device_at_first (Err BadCommand) (Refused BadCommand) }
-    ensures other_word { ¬ IsAllowed smallest_device_at_first (Err BadCommand) (Refused Busy) }
+    ensures word { IsAllowed smallest_device_at_first (Err no_command) (Refused no_command) }
+    ensures other_word { ¬ IsAllowed smallest_device_at_first (Err no_command)
+        (Refused (bad_word 1)) }
     ensures all { AreAllowed after_all (Ok (event.Dispatch 0)) (from_first ∷ from_second ∷ []) }
     ensures neither { NoneShows after_all (Ok (event.Dispatch 0)) (answered (codes "idle")) }
     ensures left_out { ¬ AreAllowed after_all (Ok (event.Dispatch 0)) (from_first ∷ []) }
@@ -208,14 +213,14 @@ pub fn allowed()
 pub fn followed()
     ensures step { IsFollowed smallest_device_at_first (Ok event.Poll) (answered (codes "nothing"))
         smallest_device_at_first (Shown (poll_record Nothing)) }
-    ensures refused { IsFollowed smallest_device_at_first (Err BadCommand)
+    ensures refused { IsFollowed smallest_device_at_first (Err no_command)
         (answered (codes "refused 13 BadCommand")) smallest_device_at_first
-        (Shown (Refused BadCommand)) }
-    ensures others { ¬ IsFollowed smallest_device_at_first (Err BadCommand)
-        (answered (codes "nothing")) smallest_device_at_first (Shown (Refused BadCommand))
+        (Shown (Refused no_command)) }
+    ensures others { ¬ IsFollowed smallest_device_at_first (Err no_command)
+        (answered (codes "nothing")) smallest_device_at_first (Shown (Refused no_command))
         × ¬ IsFollowed smallest_device_at_first (Ok event.Poll)
         (answered (codes "refused 13 BadCommand")) smallest_device_at_first
-        (Shown (Refused BadCommand))
+        (Shown (Refused no_command))
         × ¬ IsFollowed smallest_device_at_first (Ok event.Poll)
         (answered (codes "active")) smallest_device_at_first (Shown (poll_record Active)) }
     ensures shown { (v : Vec Record Global)
@@ -229,8 +234,8 @@ pub fn followed()
         → v.items ≡ []
         → ¬ IsFollowed no_cells (Ok submission_of_a_run) nothing_seen no_cells
         (followed.Differs v) }
-    ensures another_state { ¬ IsFollowed smallest_device_at_first (Err BadCommand) nothing_seen
-        (running_at_first smallest_caps 8) (Shown (Refused BadCommand)) }
+    ensures another_state { ¬ IsFollowed smallest_device_at_first (Err no_command) nothing_seen
+        (running_at_first smallest_caps 8) (Shown (Refused no_command)) }
 {}
 
 /// A run from set-up to its end conforms. No other answers do, nor more or fewer than were seen.
@@ -242,12 +247,12 @@ pub fn a_run()
     ensures first_queue { ¬ IsShownRun caps_of_three_queues 10 observed_of_two_queues
         (records_of_two_queues ++ from_first ∷ end_of_second ∷ []) }
     ensures fewer { ¬ AreShown (nothing_seen ∷ []) [] }
-    ensures more { ¬ AreShown [] (Refused BadCommand ∷ []) }
+    ensures more { ¬ AreShown [] (Refused no_command ∷ []) }
     ensures second_not_shown { ¬ AreShown (nothing_seen ∷ answered (codes "idle") ∷ [])
-        (Refused BadCommand ∷ Refused BadCommand ∷ []) }
+        (Refused no_command ∷ Refused no_command ∷ []) }
     ensures others { ¬ IsShownRun smallest_caps 9
-        ((Refuse BadCommand, answered (codes "nothing")) ∷ []) (Refused BadCommand ∷ [])
-        × ¬ IsShownRun smallest_caps 9 (polled_with nothing_seen) (Refused BadCommand ∷ [])
+        ((Refuse no_command, answered (codes "nothing")) ∷ []) (Refused no_command ∷ [])
+        × ¬ IsShownRun smallest_caps 9 (polled_with nothing_seen) (Refused no_command ∷ [])
         × ¬ IsShownRun smallest_caps 9 (polled_with (answered (codes "active")))
         (poll_record Active ∷ []) }
 {}
@@ -278,8 +283,8 @@ pub fn texts()
         ≡ codes "seen: \"\\\"\", zf true\n" }
     ensures none { difference_text 3 (answered (codes "active")) [] ≡ [] }
     ensures flag { difference_text 0 (flagged true)
-        ((Refused BadCommand, allowed_line [] (Refused BadCommand)) ∷ [])
-        ≡ codes "step 0: command\nseen: zf true\nallowed: refused 13 BadCommand\n" }
+        ((Refused no_command, allowed_line [] (Refused no_command)) ∷ [])
+        ≡ codes "step 0: command 0x0\nseen: zf true\nallowed: refused 13 BadCommand\n" }
 {}
 
 /// A text that was seen, as it is where it is plain, and else in JSON.
@@ -339,12 +344,46 @@ pub fn reports()
     ensures bad_step { IsReport (Some (BadStep 0)) [] }
     ensures before_bad_step { ¬ IsReport (Some (BadStep 0)) (codes "step 0: poll\n") }
     ensures not_json { ¬ IsReport (Some NotJson) [] }
+    ensures all { IsFullReport (Some (Differs 0))
+        (codes
+        "step 0: poll\nseen: full\nallowed: nothing\ndiffers: 1 step of 1, 1 answer seen\n") }
+    ensures all_conform { IsFullReport None (codes "conforms: 1 step, 0 answers seen\n") }
+    ensures no_differences { ¬ IsFullReport (Some (Differs 0))
+        (codes "differs: 1 step of 1, 1 answer seen\n") }
+{}
+
+/// Every step that differs: nothing counts as seen of those before it that differ.
+#[tactic(auto, unfolding(dsa_scenario::specs::Worked::digits_on_literals))]
+pub fn every_difference()
+    ensures struck { unseen_at 1 (polled_with (flagged true) ++ refused_then_polled (flagged false))
+        ≡ polled_with (flagged true) ++ refused_then_polled (flagged false) }
+    ensures struck_first { unseen_at 0 (polled_with (answered []) ++ polled_with (flagged true))
+        ≡ polled_with nothing_seen ++ polled_with (flagged true) }
+    ensures struck_last { unseen_at 2
+        (refused_then_polled (answered []) ++ polled_with (flagged true))
+        ≡ refused_then_polled (answered []) ++ polled_with nothing_seen }
+    ensures struck_behind { unseen_at 1 (polled_with (answered [])) ≡ polled_with (answered []) }
+    ensures line { differs_text 2 12 8 ≡ codes "differs: 2 steps of 12, 8 answers seen\n" }
+    ensures one { differs_text 1 1 1 ≡ codes "differs: 1 step of 1, 1 answer seen\n" }
+    ensures told { AreDiffering smallest_caps 9
+        (object_of ((codes "answer", string (codes "active")) ∷ poll_step) ∷ []) 0
+        (codes
+        "step 0: poll\nseen: active\nallowed: nothing: no command is active\ndiffers: 1 step of 1, 1 answer seen\n") }
+    ensures none { ¬ AreDifferences smallest_caps 9 (polled_with (answered (codes "active"))) [] }
+    ensures shown { (text : List ℕ)
+        → ¬ AreDifferences smallest_caps 9 (polled_with (answered (codes "nothing")))
+        ((0, text) ∷ []) }
+    ensures full { IsFullVerdict smallest_caps 9
+        (object_of poll_step ∷ []) None (codes "conforms: 1 step, 0 answers seen\n") }
+    ensures other_fault { ¬ IsFullVerdict smallest_caps 9 [] (Some BadCaps) [] }
+    ensures first { (caps : Caps) (text : List ℕ) → IsVerdictOf false caps 9 [] None text
+        → IsConforming caps 9 [] text }
 {}
 
 /// Which queue an answer tells, and the queues that steps took from.
 pub fn queues()
     ensures taken { map queue_of_record
-        (record_of_a_take 7 2 ∷ by_enqcmd Full ∷ Refused BadCommand ∷ [])
+        (record_of_a_take 7 2 ∷ by_enqcmd Full ∷ Refused no_command ∷ [])
         ≡ Some 2 ∷ None ∷ None ∷ [] }
     ensures in_turn { queues_taken
         (record { event = event.Dispatch 0; reply = reply.Dispatch (Taken (record_ticket 5 1) 2) }
@@ -387,7 +426,7 @@ pub fn verdicts()
     ensures untold { ¬ IsDifference smallest_caps 9 [] (Ask event.Poll, answered (codes "active")) 0
         [] }
     ensures earlier { ¬ IsDifference smallest_caps 9
-        ((Refuse BadCommand, answered (codes "nothing")) ∷ [])
+        ((Refuse no_command, answered (codes "nothing")) ∷ [])
         (Ask event.Poll, answered (codes "active")) 1 [] }
     ensures other_step { ¬ IsDiffering smallest_caps 9 (object_of poll_step ∷ []) 0
         (codes "step 0: poll\nseen: active\nallowed: nothing: no command is active\n") }
@@ -443,8 +482,8 @@ pub fn documents()
 /// What was seen of the first steps, and how many these are.
 pub fn first_steps()
     ensures none { seen_before 0 (polled_with (flagged true)) ≡ polled_with nothing_seen }
-    ensures first { seen_before 1 ((Refuse BadCommand, flagged true) ∷ polled_with (flagged true))
-        ≡ (Refuse BadCommand, flagged true) ∷ polled_with nothing_seen }
+    ensures first { seen_before 1 ((Refuse no_command, flagged true) ∷ polled_with (flagged true))
+        ≡ (Refuse no_command, flagged true) ∷ polled_with nothing_seen }
     ensures more { seen_before 2 (polled_with (flagged true)) ≡ polled_with (flagged true) }
     ensures all { count_shown 5 None ≡ 5 }
     ensures differs { count_shown 5 (Some (Differs 2)) ≡ 2 }
@@ -458,6 +497,14 @@ pub fn farthest_steps()
     ensures differs { IsFarthest smallest_caps 9 (polled_with (answered (codes "active"))) 0 }
     ensures too_early { ¬ IsFarthest smallest_caps 9 (polled_with (answered (codes "nothing"))) 0 }
     ensures behind { ¬ IsFarthest smallest_caps 9 (polled_with (answered (codes "nothing"))) 2 }
+{}
+
+/// How far a run shows what was seen, where the next step may be answered otherwise.
+pub fn own_answers()
+    ensures all { IsShownUpTo smallest_caps 9 (polled_with (answered (codes "nothing"))) 1 }
+    ensures none { IsShownUpTo smallest_caps 9 (polled_with (answered (codes "active"))) 0 }
+    ensures too_early { ¬ IsShownUpTo smallest_caps 9 (polled_with (answered (codes "nothing"))) 0 }
+    ensures too_far { ¬ IsShownUpTo smallest_caps 9 (polled_with (answered (codes "active"))) 1 }
 {}
 
 /// What is made of such a run, here its lines.
@@ -566,7 +613,7 @@ pub fn ways()
     ensures no_run { GoesAtFirst [] [] smallest_device_at_first }
     ensures elsewhere { ¬ GoesAtFirst [] [] (running_at_first smallest_caps 8) }
     ensures fewer { ¬ GoesAtFirst (polled_with nothing_seen) [] smallest_device_at_first }
-    ensures more { ¬ GoesAtFirst [] (Refused BadCommand ∷ []) smallest_device_at_first }
+    ensures more { ¬ GoesAtFirst [] (Refused no_command ∷ []) smallest_device_at_first }
     ensures by_names { RunFrom [] (running_at_first caps_of_a_run 7) (take 8 observed_of_a_run)
         (take 8 records_of_a_run)
         (standing caps_of_a_run 7 (take 8 records_of_a_run)) }
@@ -581,7 +628,7 @@ pub fn ways()
         (poll_record Nothing ∷ []) (running_at_first smallest_caps 8) }
     ensures not_allowed { ¬ GoesAtFirst (polled_with (answered (codes "active")))
         (poll_record Active ∷ []) smallest_device_at_first }
-    ensures not_answered { ¬ GoesAtFirst (polled_with nothing_seen) (Refused BadCommand ∷ [])
+    ensures not_answered { ¬ GoesAtFirst (polled_with nothing_seen) (Refused no_command ∷ [])
         smallest_device_at_first }
     ensures not_seen { ¬ GoesAtFirst (polled_with (answered (codes "active")))
         (poll_record Nothing ∷ []) smallest_device_at_first }
@@ -596,18 +643,18 @@ pub fn reasons()
         (codes ": no command is active") }
     ensures another { ¬ IsReason smallest_caps 9 [] (Ask event.Poll) (codes ": no command") }
     ensures no_run { ¬ IsReason smallest_caps 9
-        ((Refuse BadCommand, answered (codes "nothing")) ∷ []) (Ask event.Poll)
+        ((Refuse no_command, answered (codes "nothing")) ∷ []) (Ask event.Poll)
         (codes ": no command is active") }
 {}
 
 /// The lines of all that is allowed after runs that show what was seen.
 #[tactic(auto, unfolding(dsa_scenario::specs::Worked::digits_on_literals))]
 pub fn allowed_lines()
-    ensures line { IsAllowedLine smallest_caps 9 ((Refuse BadCommand, nothing_seen) ∷ [])
+    ensures line { IsAllowedLine smallest_caps 9 ((Refuse no_command, nothing_seen) ∷ [])
         (Ask event.Poll) (poll_record Nothing)
         (codes "allowed: nothing: no command is active\n") }
     ensures no_run { ¬ IsAllowedLine smallest_caps 9
-        ((Refuse BadCommand, answered (codes "nothing")) ∷ []) (Ask event.Poll)
+        ((Refuse no_command, answered (codes "nothing")) ∷ []) (Ask event.Poll)
         (poll_record Nothing)
         (codes "allowed: nothing: no command is active\n") }
     ensures not_allowed { ¬ IsAllowedLine smallest_caps 9 [] (Ask event.Poll)
@@ -615,7 +662,7 @@ pub fn allowed_lines()
         (codes "allowed: active: no command is active\n") }
     ensures no_reason { ¬ IsAllowedLine smallest_caps 9 [] (Ask event.Poll)
         (poll_record Nothing) (codes "allowed: nothing\n") }
-    ensures all { AreAllLines smallest_caps 9 ((Refuse BadCommand, nothing_seen) ∷ [])
+    ensures all { AreAllLines smallest_caps 9 ((Refuse no_command, nothing_seen) ∷ [])
         (Ask event.Poll) (nothing_line ∷ []) }
     ensures another { ¬ AreAllLines smallest_caps 9 [] (Ask event.Poll)
         (nothing_line
@@ -816,7 +863,7 @@ pub fn devices_gone()
         → (told : Told)
         → IsFollowedTo smallest_caps 9 (refused_then_polled (answered (codes "nothing"))) 2
         smallest_device_at_first t.items
-        → IsGone smallest_caps 9 ((Refuse BadCommand, nothing_seen) ∷ [])
+        → IsGone smallest_caps 9 ((Refuse no_command, nothing_seen) ∷ [])
         (Ask event.Poll, answered (codes "nothing")) 1
         smallest_device_at_first (Ok event.Poll) (a ∷ []) (told ∷ [])
         (a ∷ way_at_first 9 t ∷ []) (told ∷ []) }
@@ -879,11 +926,11 @@ pub fn devices_gone()
     ensures one_neither { ¬ IsOneGone smallest_device_at_first (Ok event.Poll)
         (answered (codes "active")) [] [] }
     ensures all_on { (t : Vec Ticket Global)
-        → IsFollowedTo smallest_caps 9 ((Refuse BadCommand, nothing_seen) ∷ []) 1
+        → IsFollowedTo smallest_caps 9 ((Refuse no_command, nothing_seen) ∷ []) 1
         smallest_device_at_first t.items
         → IsFollowedTo smallest_caps 9 (refused_then_polled (answered (codes "nothing"))) 2
         smallest_device_at_first t.items
-        → AreGone smallest_caps 9 ((Refuse BadCommand, nothing_seen) ∷ [])
+        → AreGone smallest_caps 9 ((Refuse no_command, nothing_seen) ∷ [])
         (Ask event.Poll, answered (codes "nothing")) 1 (way_at_first 9 t ∷ [])
         (way_at_first 9 t ∷ []) [] }
     ensures all_told { (t : Vec Ticket Global)
@@ -918,7 +965,7 @@ pub fn devices_gone()
 pub fn devices_followed()
     ensures not_followed { (a : Way) → ¬ AreFollowed smallest_caps 9 [] 1 (a ∷ []) }
     ensures none { ¬ AreFollowed smallest_caps 9
-        ((Refuse BadCommand, answered (codes "nothing")) ∷ []) 1 [] }
+        ((Refuse no_command, answered (codes "nothing")) ∷ []) 1 [] }
     ensures missed { (way : Way)
         → way.device ≡ after_a_take
         → ¬ AreFollowed caps_of_three_queues 9 (take 9 observed_of_two_queues) 9 (way ∷ []) }
@@ -929,7 +976,7 @@ pub fn devices_followed()
         → ¬ AreFollowed smallest_caps 9 [] 0 (way_at_first 8 t ∷ []) }
     ensures second { (a : Way)
         → AreFollowed smallest_caps 9 (refused_then_polled nothing_seen) 2 (a ∷ [])
-        → AreStepped smallest_caps 9 ((Refuse BadCommand, nothing_seen) ∷ [])
+        → AreStepped smallest_caps 9 ((Refuse no_command, nothing_seen) ∷ [])
         (Ask event.Poll, nothing_seen) 1
         (a ∷ []) None }
     ensures unread { (a : Way)
@@ -942,7 +989,7 @@ pub fn devices_followed()
         ∷ object_of poll_step
         ∷ object_of poll_step
         ∷ [])
-        ((Refuse BadCommand, nothing_seen)
+        ((Refuse no_command, nothing_seen)
         ∷ (Ask event.Poll, nothing_seen)
         ∷ (Ask event.Poll, nothing_seen)
         ∷ [])

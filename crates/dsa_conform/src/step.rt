@@ -16,8 +16,7 @@ use crate::way::Way;
 use dsa_book::Event;
 use dsa_device::Device;
 use dsa_explain_lines::add_part;
-use dsa_regs::Fault;
-use dsa_scenario::{Action, ask, event_for, note_ticket};
+use dsa_scenario::{Action, Asked, ask, event_for, note_ticket};
 use dsa_store::EntryStore;
 use std::alloc::{AllocError, Global};
 
@@ -25,7 +24,7 @@ use std::alloc::{AllocError, Global};
 fn reason_of<S: EntryStore>(
     alloc: Global,
     device: &Device<S>,
-    asked: &Result<Event, Fault>,
+    asked: &Asked,
 ) -> Result<String, AllocError>
     ensures { IfOk result (λ told. string_bytes told ≡ part_of device.now asked.now) }
 {

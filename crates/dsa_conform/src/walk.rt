@@ -43,8 +43,8 @@ fn conforms_text(alloc: Global, steps: usize, seen: usize) -> Result<String, All
     Ok(text)
 }
 
-// How many were seen, with this one.
-fn count_more(answers: usize, seen: &Observed<'_>) -> usize
+/// How many were seen, with this one.
+pub fn count_more(answers: usize, seen: &Observed<'_>) -> usize
     requires { answers < usize.MAX }
     ensures { result ≡ answers + cond (is_seen (seen_as seen.now)) 1 0 }
 {

@@ -18,8 +18,7 @@ use crate::shown::is_shown;
 use dsa_book::{DispatchAnswer, Event, Reply, Step, Ticket};
 use dsa_cells::LinkedStore;
 use dsa_device::Device;
-use dsa_regs::Fault;
-use dsa_scenario::{Action, Head, Record, Run, ask, event_for, note_ticket, open_run};
+use dsa_scenario::{Action, Asked, Head, Record, Run, ask, event_for, note_ticket, open_run};
 use dsa_store::EntryStore;
 use std::alloc::{AllocError, Global};
 
@@ -103,11 +102,7 @@ fn take_or_ask<S: EntryStore>(device: &mut Device<S>, engine: u16, queue: u16) -
 }
 
 // Asks the device for the event. Where it is to take an entry, it takes from the queue if it may.
-fn ask_for<S: EntryStore>(
-    device: &mut Device<S>,
-    asked: &Result<Event, Fault>,
-    queue: Option<u16>,
-) -> Record
+fn ask_for<S: EntryStore>(device: &mut Device<S>, asked: &Asked, queue: Option<u16>) -> Record
     ensures answers { answered_by result ≡ asked.now }
     ensures leads { Leads device.old result device.new }
     ensures taken { (engine : ℕ) → (from : ℕ) → asked.now ≡ Ok (event.Dispatch engine)

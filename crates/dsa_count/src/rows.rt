@@ -2,7 +2,6 @@
 
 ghost use Rattle.std.specs.Prelude.{◌≡◌, ◌++◌, [], ◌∷◌, Some, None, true, false, codes, map};
 ghost use Rattle.dsa_regs.specs.declared.Command.TheVariants.{DrainAll};
-ghost use Rattle.dsa_regs.specs.declared.Fault.TheVariants.{BadCommand};
 ghost use Rattle.dsa_book.specs.declared.answer.Cause.TheVariants.{AtLimit, WrongKind};
 ghost use Rattle.dsa_book.specs.declared.answer.IssueAnswer.TheVariants.{Active, Ended};
 ghost use Rattle.dsa_book.specs.declared.answer.PollAnswer.TheVariants as poll;
@@ -10,6 +9,7 @@ ghost use Rattle.dsa_book.specs.declared.answer.SubmitAnswer.TheVariants.{Accept
 ghost use Rattle.dsa_book.specs.declared.answer.SubmitAnswer.TheVariants.{Dropped, Full};
 ghost use Rattle.dsa_book.specs.declared.fate.Fate.TheVariants.{Abandoned, Aborted, Completed};
 ghost use Rattle.dsa_device.specs.Running.{running_at_first};
+ghost use Rattle.dsa_scenario.specs.Worked.{no_command};
 ghost use Rattle.dsa_scenario.specs.declared.run.Record.TheVariants.{Refused};
 ghost use Rattle.dsa_scenario.specs.Steps.{standing, visits};
 ghost use Rattle.dsa_scenario.specs.Worked.{caps_of_a_run, fate, record_ticket, records_of_a_run};
@@ -31,7 +31,7 @@ ghost use Rattle.dsa_count.specs.Worked.{submissions_of_three};
 /// Which records are submissions, whose they are, and which answers turn submissions away alike.
 pub fn of_submissions()
     ensures records { map submission_in
-        (submitted 2 5 (Retry AtLimit) ∷ fetched_member ∷ Refused BadCommand
+        (submitted 2 5 (Retry AtLimit) ∷ fetched_member ∷ Refused no_command
         ∷ submitted 3 4 (Accepted (record_ticket 1 7)) ∷ [])
         ≡ Some (made 2 5 (Retry AtLimit)) ∷ None ∷ None
         ∷ Some (made 3 4 (Accepted (record_ticket 1 7))) ∷ [] }
@@ -138,7 +138,7 @@ pub fn of_waits()
     ensures one { command_lines 0 (issued_with DrainAll Active ∷ polled poll.Finished ∷ [])
         ≡ codes "command 0 drain-all: finished after 1 step\n" }
     ensures refused { command_lines 0
-        (issued_with DrainAll Active ∷ Refused BadCommand ∷ polled poll.Finished ∷ [])
+        (issued_with DrainAll Active ∷ Refused no_command ∷ polled poll.Finished ∷ [])
         ≡ codes "command 0 drain-all: finished after 2 steps\n" }
     ensures none { command_lines 0 (issued_with DrainAll (Ended 2) ∷ polled poll.Nothing ∷ [])
         ≡ [] }

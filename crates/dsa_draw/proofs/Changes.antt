@@ -3,6 +3,7 @@ use Rattle.std.proofs.Common.{◌≡◌, ◌<◌, ◌≤◌, ◌+◌, ◌-◌, �
 use Rattle.std.proofs.Common.{append_assoc}
 use Rattle.std.specs.List.{range_with_len}
 use Rattle.dsa_draw.specs.declared.{bars.Bar.{Bar}, moment.Moment.{Moment}}
+use Rattle.dsa_draw.specs.declared.range.Extent.{Extent}
 use Rattle.dsa_draw.specs.Bars.{changed_at}
 use Rattle.dsa_draw.specs.Engines.{engine_part_text, engine_end, engines_text, engines_end}
 
@@ -30,22 +31,22 @@ engine_first engine count less =
     ap (range_with_len engine) is
 
 -- one engine more
-pub engined : (engine count steps top next : ℕ) (moments : List Moment) (bars : List Bar)
-    (text longer whole : List ℕ) → engine < count → longer ≡ text ++ engine_part_text engine steps top moments bars
-    → next ≡ engine_end engine steps top moments bars
-    → text ++ engines_text steps top (range_with_len engine (count - engine)) moments bars ≡ whole
-    → longer ++ engines_text steps next (range_with_len (engine + 1) (count - (engine + 1))) moments bars ≡ whole
-engined engine count steps top next moments bars text longer whole less added is h =
-    let h' : text ++ engines_text steps top (engine ∷ range_with_len (engine + 1) (count - (engine + 1))) moments bars
-    ≡ whole = rw (engine_first engine count less) at h in
+pub engined : (engine count : ℕ) (extent : Extent) (top next : ℕ) (moments : List Moment) (bars : List Bar)
+    (text longer whole_run : List ℕ) → engine < count → longer ≡ text ++ engine_part_text engine extent top moments bars
+    → next ≡ engine_end engine extent top moments bars
+    → text ++ engines_text extent top (range_with_len engine (count - engine)) moments bars ≡ whole_run
+    → longer ++ engines_text extent next (range_with_len (engine + 1) (count - (engine + 1))) moments bars ≡ whole_run
+engined engine count extent top next moments bars text longer whole_run less added is h =
+    let h' : text ++ engines_text extent top (engine ∷ range_with_len (engine + 1) (count - (engine + 1))) moments bars
+    ≡ whole_run = rw (engine_first engine count less) at h in
     rw (added, is, append_assoc) h'
 
 -- and what follows it
-pub engined_to : (engine count steps top next : ℕ) (moments : List Moment) (bars : List Bar) (end : ℕ)
-    → engine < count → next ≡ engine_end engine steps top moments bars
-    → engines_end steps top (range_with_len engine (count - engine)) moments bars ≡ end
-    → engines_end steps next (range_with_len (engine + 1) (count - (engine + 1))) moments bars ≡ end
-engined_to engine count steps top next moments bars end less is h =
-    let h' : engines_end steps top (engine ∷ range_with_len (engine + 1) (count - (engine + 1))) moments bars ≡ end =
+pub engined_to : (engine count : ℕ) (extent : Extent) (top next : ℕ) (moments : List Moment) (bars : List Bar) (end : ℕ)
+    → engine < count → next ≡ engine_end engine extent top moments bars
+    → engines_end extent top (range_with_len engine (count - engine)) moments bars ≡ end
+    → engines_end extent next (range_with_len (engine + 1) (count - (engine + 1))) moments bars ≡ end
+engined_to engine count extent top next moments bars end less is h =
+    let h' : engines_end extent top (engine ∷ range_with_len (engine + 1) (count - (engine + 1))) moments bars ≡ end =
     rw (engine_first engine count less) at h in
     rw is h'

@@ -5,7 +5,7 @@ use Rattle.dsa_draw.specs.{declared.moment.Moment.{Moment}, Moments.{IsMomentOf}
 
 -- one moment more, of one step more
 pub AreMoments-push : (steps : List Visit) (moments : List Moment) (step : Visit) (moment : Moment)
-    → AreMoments steps moments → IsMomentOf step.after step.entry moment
+    → AreMoments steps moments → IsMomentOf step.number step.after step.entry moment
     → AreMoments (steps ++ step ∷ []) (moments ++ moment ∷ [])
 AreMoments-push [] [] step moment h is = (is, tt)
 AreMoments-push [] (m ∷ ms) step moment h is = absurd h

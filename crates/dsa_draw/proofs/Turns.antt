@@ -36,41 +36,41 @@ highest_at_end band ms i most peaks past h =
 
 -- one level more
 pub turned : (V : Moment → ℕ) (ms : List Moment) (i : ℕ) (m : Moment) (bottom most step before : ℕ)
-    (text longer whole : List ℕ) → i < length ms → m ≡ get_or ms i m
+    (text longer whole_run : List ℕ) → i < length ms → m ≡ get_or ms i m
     → longer ≡ text ++ cond (V m == before) [] (turn_text bottom most step before (V m))
-    → text ++ turns bottom most step before (drop i (map V ms)) ≡ whole
-    → longer ++ turns bottom most (next_step step) (V m) (drop (i + 1) (map V ms)) ≡ whole
-turned V ms i m bottom most step before text longer whole inside is added h =
-    let h' : text ++ turns bottom most step before (V m ∷ drop (i + 1) (map V ms)) ≡ whole =
+    → text ++ turns bottom most step before (drop i (map V ms)) ≡ whole_run
+    → longer ++ turns bottom most (next_step step) (V m) (drop (i + 1) (map V ms)) ≡ whole_run
+turned V ms i m bottom most step before text longer whole_run inside is added h =
+    let h' : text ++ turns bottom most step before (V m ∷ drop (i + 1) (map V ms)) ≡ whole_run =
     rw (left_of V ms i m inside is) at h in
     rw (added, append_assoc) h'
 
 -- no level more
-pub turned_at_end : (V : Moment → ℕ) (ms : List Moment) (i bottom most step before : ℕ) (text longer whole : List ℕ)
+pub turned_at_end : (V : Moment → ℕ) (ms : List Moment) (i bottom most step before : ℕ) (text longer whole_run : List ℕ)
     → length ms ≤ i → longer ≡ text ++ reach_text bottom step before
-    → text ++ turns bottom most step before (drop i (map V ms)) ≡ whole → longer ≡ whole
-turned_at_end V ms i bottom most step before text longer whole past added h =
-    let h' : text ++ turns bottom most step before [] ≡ whole =
+    → text ++ turns bottom most step before (drop i (map V ms)) ≡ whole_run → longer ≡ whole_run
+turned_at_end V ms i bottom most step before text longer whole_run past added h =
+    let h' : text ++ turns bottom most step before [] ≡ whole_run =
     rw (drop_all i (map V ms) (rw (length-map ms V) past)) at h in
     added ∙ h'
 
 -- one band more
 pub banded : (bands : List Band) (i : ℕ) (d : Band) (steps top next : ℕ) (moments : List Moment)
-    (text longer whole : List ℕ) → i < length bands → longer
+    (text longer whole_run : List ℕ) → i < length bands → longer
     ≡ text ++ band_part_text steps top (get_or bands i d) moments
-    → next ≡ next_top top (get_or bands i d) moments → text ++ bands_text steps top (drop i bands) moments ≡ whole
-    → longer ++ bands_text steps next (drop (i + 1) bands) moments ≡ whole
-banded bands i d steps top next moments text longer whole inside added is h =
-    let h' : text ++ bands_text steps top (get_or bands i d ∷ drop (i + 1) bands) moments ≡ whole =
+    → next ≡ next_top top (get_or bands i d) moments → text ++ bands_text steps top (drop i bands) moments ≡ whole_run
+    → longer ++ bands_text steps next (drop (i + 1) bands) moments ≡ whole_run
+banded bands i d steps top next moments text longer whole_run inside added is h =
+    let h' : text ++ bands_text steps top (get_or bands i d ∷ drop (i + 1) bands) moments ≡ whole_run =
     rw (drop_more bands i d inside) at h in
     rw (added, is, append_assoc) h'
 
 -- no band more
-pub banded_at_end : (bands : List Band) (i : ℕ) (steps top : ℕ) (moments : List Moment) (text whole : List ℕ)
-    → length bands ≤ i → text ++ bands_text steps top (drop i bands) moments ≡ whole → text ≡ whole
-banded_at_end bands i steps top moments text whole past h =
-    let h' : text ++ bands_text steps top [] moments ≡ whole = rw (drop_all i bands past) at h in
-    let h'' : text ≡ whole = rw (append-nil text) at h' in
+pub banded_at_end : (bands : List Band) (i : ℕ) (steps top : ℕ) (moments : List Moment) (text whole_run : List ℕ)
+    → length bands ≤ i → text ++ bands_text steps top (drop i bands) moments ≡ whole_run → text ≡ whole_run
+banded_at_end bands i steps top moments text whole_run past h =
+    let h' : text ++ bands_text steps top [] moments ≡ whole_run = rw (drop_all i bands past) at h in
+    let h'' : text ≡ whole_run = rw (append-nil text) at h' in
     h''
 
 -- one band more above what follows, and no band more
@@ -89,20 +89,20 @@ banded_to_end bands i top moments end past h =
     h'
 
 -- one column more
-pub columned : (ms : List Moment) (i : ℕ) (m : Moment) (height step : ℕ) (text middle longer whole : List ℕ)
-    → i < length ms → m ≡ get_or ms i m → middle ≡ text ++ fifth_text height step
-    → longer ≡ middle ++ column_text height step m.entry → text ++ columns_text height step (drop i ms) ≡ whole
-    → longer ++ columns_text height (next_step step) (drop (i + 1) ms) ≡ whole
-columned ms i m height step text middle longer whole inside is first second h =
-    let h' : text ++ columns_text height step (m ∷ drop (i + 1) ms) ≡ whole = rw (left ms i m inside is) at h in
-    let both : longer ≡ text ++ (fifth_text height step ++ column_text height step m.entry) =
+pub columned : (ms : List Moment) (i : ℕ) (m : Moment) (height step : ℕ) (text middle longer whole_run : List ℕ)
+    → i < length ms → m ≡ get_or ms i m → middle ≡ text ++ fifth_text height step m.number
+    → longer ≡ middle ++ column_text height step m → text ++ columns_text height step (drop i ms) ≡ whole_run
+    → longer ++ columns_text height (next_step step) (drop (i + 1) ms) ≡ whole_run
+columned ms i m height step text middle longer whole_run inside is first second h =
+    let h' : text ++ columns_text height step (m ∷ drop (i + 1) ms) ≡ whole_run = rw (left ms i m inside is) at h in
+    let both : longer ≡ text ++ (fifth_text height step m.number ++ column_text height step m) =
     rw (second, first, append_assoc) refl in
     rw (both, append_assoc) h'
 
 -- no column more
-pub columned_at_end : (ms : List Moment) (i height step : ℕ) (text whole : List ℕ) → length ms ≤ i
-    → text ++ columns_text height step (drop i ms) ≡ whole → text ≡ whole
-columned_at_end ms i height step text whole past h =
-    let h' : text ++ columns_text height step [] ≡ whole = rw (drop_all i ms past) at h in
-    let h'' : text ≡ whole = rw (append-nil text) at h' in
+pub columned_at_end : (ms : List Moment) (i height step : ℕ) (text whole_run : List ℕ) → length ms ≤ i
+    → text ++ columns_text height step (drop i ms) ≡ whole_run → text ≡ whole_run
+columned_at_end ms i height step text whole_run past h =
+    let h' : text ++ columns_text height step [] ≡ whole_run = rw (drop_all i ms past) at h in
+    let h'' : text ≡ whole_run = rw (append-nil text) at h' in
     h''

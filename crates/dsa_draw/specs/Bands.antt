@@ -1,9 +1,15 @@
 -- What the bands of a drawing are, as text.
+use Rattle.dsa_draw.specs.declared.phases.Holder.TheVariants as holder
+use Rattle.std.specs.Prelude.{Bool, true, false, Option, Some, None, option_and_then, flat_map}
 use Rattle.std.specs.Prelude.{ℕ, ◌+◌, ◌-◌, ◌*◌, ◌/◌, ◌^◌, ◌==◌, cond, min, max, List, [], ◌∷◌, ◌++◌, map, codes, decimal}
 use Rattle.std.specs.Prelude.{slice_get, unwrap_or}
 use Rattle.std.specs.List.{range_with_len}
 use Rattle.dsa_regs.specs.declared.Caps.{Caps}
+use Rattle.dsa_regs.specs.declared.Phase.{Phase, TheVariants.{Off, On, Stopping}}
+use Rattle.dsa_event_text.specs.Text.{phase_word}
+use Rattle.dsa_base.specs.Numbers.{numbers_below}
 use Rattle.dsa_draw.specs.Moments.{band_count}
+use Rattle.dsa_draw.specs.declared.phases.{Holder.{Holder, TheVariants.{Device}}, Stretch.{Stretch}}
 use Rattle.dsa_draw.specs.declared.bands.{Band.{Band}}
 use Rattle.dsa_draw.specs.declared.bands.{Line.{Line, TheVariants.{Filled, Mark, Limit}}}
 use Rattle.dsa_draw.specs.declared.moment.{Level.{Level}, Moment.{Moment}}
@@ -19,13 +25,14 @@ levels_in Group moment = moment.groups.items
 -- what a band has at a moment; all is 0 where the device has no such queue or group
 abbrev pub level_in : Band → Moment → Level
 level_in band moment =
-    unwrap_or (slice_get (levels_in band.kind moment) band.number) (record { filled = 0; mark = 0; limit = 0 })
+    unwrap_or (slice_get (levels_in band.kind moment) band.number)
+    (record { filled = 0; mark = 0; limit = 0; phase = None })
 
 -- what a line of it has
-abbrev pub value_of : Line → Level → ℕ
-value_of Filled level = level.filled
-value_of Mark level = level.mark
-value_of Limit level = level.limit
+abbrev pub line_value : Line → Level → ℕ
+line_value Filled level = level.filled
+line_value Mark level = level.mark
+line_value Limit level = level.limit
 
 -- each of these at its highest, in this level and in that
 abbrev pub raised : Level → Level → Level
@@ -33,6 +40,7 @@ raised most level = record {
   filled = max most.filled level.filled;
   mark = max most.mark level.mark;
   limit = max most.limit level.limit;
+  phase = None;
 }
 
 -- and in all of a band
@@ -42,7 +50,7 @@ raised_by band most (moment ∷ moments) = raised_by band (raised most (level_in
 
 -- the peaks of a band in a run; all is 0 where nothing was configured
 abbrev pub peaks_of : Band → List Moment → Level
-peaks_of band moments = raised_by band (record { filled = 0; mark = 0; limit = 0 }) moments
+peaks_of band moments = raised_by band (record { filled = 0; mark = 0; limit = 0; phase = None }) moments
 
 -- the highest of them, where the band is full
 abbrev pub highest : Level → ℕ
@@ -78,11 +86,70 @@ turns bottom most step before (level ∷ levels) =
 
 -- the levels of a line, one for each step
 abbrev pub levels_of : Band → Line → List Moment → List ℕ
-levels_of band line moments = map (λ moment. value_of line (level_in band moment)) moments
+levels_of band line moments = map (λ moment. line_value line (level_in band moment)) moments
 
 -- a line from its first step on
 abbrev pub path_text : ℕ → ℕ → List ℕ → List ℕ
 path_text bottom most levels = codes "M112 " ++ decimal bottom ++ turns bottom most 0 0 levels
+
+-- ---- phases
+
+-- the phase of a queue of this level; one that the device does not have is off
+abbrev pub phase_of_queue : Option Level → Phase
+phase_of_queue level = unwrap_or (option_and_then (λ level. level.phase) level) Off
+
+-- the phase of the device, or of a queue, at a moment
+abbrev pub phase_in : Holder → Moment → Phase
+phase_in Device moment = moment.phase
+phase_in (holder.Queue queue) moment = phase_of_queue (slice_get moment.queues.items queue)
+
+abbrev pub is_same_phase : Phase → Phase → Bool
+is_same_phase Off Off = true
+is_same_phase On On = true
+is_same_phase Stopping Stopping = true
+is_same_phase _ _ = false
+
+-- since which step it has the phase that it has after this one
+abbrev pub stretch_after : ℕ → Phase → Stretch → Stretch
+stretch_after step phase stretch =
+    cond (is_same_phase stretch.phase phase) stretch (record { phase = phase; begin = step })
+
+abbrev pub phase_holder_text : Holder → List ℕ
+phase_holder_text Device = codes "device"
+phase_holder_text (holder.Queue queue) = codes "queue " ++ decimal queue
+
+-- a line over the columns from `begin` on to before `end`, and its title
+unfoldable pub phase_line_text : List ℕ → ℕ → ℕ → ℕ → List ℕ
+phase_line_text word begin end y =
+    codes "<path class=\"" ++ word ++ codes "\" d=\"M" ++ decimal (112 + 14 * begin) ++ codes " " ++ decimal y
+    ++ codes "h" ++ decimal (14 * (end - begin)) ++ codes "\"><title>"
+
+unfoldable pub phase_line_title : Holder → List ℕ → List ℕ
+phase_line_title holder word = phase_holder_text holder ++ codes " " ++ word ++ codes "</title></path>\n"
+
+abbrev pub phase_stretch_text : Holder → ℕ → ℕ → Stretch → List ℕ
+phase_stretch_text holder y end stretch =
+    phase_line_text (phase_word stretch.phase) stretch.begin end y
+    ++ phase_line_title holder (phase_word stretch.phase)
+
+-- while it is off there is none
+abbrev pub line_unless_off : Phase → List ℕ → List ℕ
+line_unless_off Off line = []
+line_unless_off _ line = line
+
+abbrev pub stretch_text : Holder → ℕ → ℕ → Stretch → List ℕ
+stretch_text holder y end stretch = line_unless_off stretch.phase (phase_stretch_text holder y end stretch)
+
+-- a line where a stretch ends since the phase is another, the first moment's step of this number
+abbrev pub stretches_text : Holder → ℕ → ℕ → Stretch → List Moment → List ℕ
+stretches_text holder y step stretch [] = stretch_text holder y step stretch
+stretches_text holder y step stretch (moment ∷ moments) =
+    cond (is_same_phase stretch.phase (phase_in holder moment)) [] (stretch_text holder y step stretch)
+    ++ stretches_text holder y (next_step step) (stretch_after step (phase_in holder moment) stretch) moments
+
+-- the lines at `y` of a run, before which it was off
+abbrev pub phases_text : Holder → ℕ → List Moment → List ℕ
+phases_text holder y moments = stretches_text holder y 0 (record { phase = Off; begin = 0 }) moments
 
 -- ---- bands
 
@@ -120,6 +187,25 @@ numbered_text name number top =
     codes "<text x=\"4\" y=\"" ++ decimal (top + 11) ++ codes "\">" ++ name ++ codes " " ++ decimal number
     ++ codes "</text>\n"
 
+-- the place of a row's name in column 100, or in one of those that follow it by hundreds
+unfoldable pub again_place_text : ℕ → ℕ → List ℕ
+again_place_text top place =
+    codes "<text class=\"again\" x=\"" ++ decimal (1514 + 1400 * place) ++ codes "\" y=\"" ++ decimal (top + 11)
+    ++ codes "\">"
+
+abbrev pub number_after_text : Option ℕ → List ℕ
+number_after_text None = []
+number_after_text (Some number) = codes " " ++ decimal number
+
+abbrev pub again_at_text : List ℕ → Option ℕ → ℕ → ℕ → List ℕ
+again_at_text name number top place =
+    again_place_text top place ++ name ++ number_after_text number ++ codes "</text>\n"
+
+-- the name of a row again, faint, in every hundredth column of so many after the first
+abbrev pub again_text : List ℕ → Option ℕ → ℕ → ℕ → List ℕ
+again_text name number steps top =
+    flat_map (again_at_text name number top) (numbers_below ((steps - 1) / 100))
+
 abbrev pub name_of_kind : BandKind → List ℕ
 name_of_kind Queue = codes "queue"
 name_of_kind Group = codes "buffers"
@@ -141,11 +227,21 @@ unfoldable pub peak_text : ℕ → ℕ → List ℕ
 peak_text peak top =
     codes "<text x=\"4\" y=\"" ++ decimal (top + 37) ++ codes "\">peak " ++ decimal peak ++ codes "</text>\n"
 
--- a band that begins at `top` and has these peaks: its frame, its lines, its names and its numbers
+-- the phases of a queue are above its frame, which ends at `bottom`; a group has none
+abbrev pub phases_of_kind : BandKind → ℕ → ℕ → List Moment → List ℕ
+phases_of_kind Queue number bottom moments = phases_text (holder.Queue number) (bottom - 50) moments
+phases_of_kind Group number bottom moments = []
+
+abbrev pub band_phases_text : ℕ → Band → List Moment → List ℕ
+band_phases_text bottom band moments = phases_of_kind band.kind band.number bottom moments
+
+-- a band that begins at `top` and has these peaks: its frame, its lines, its names, its numbers and its phases
 unfoldable pub band_text : ℕ → ℕ → Level → Band → List Moment → List ℕ
 band_text steps top peaks band moments =
     frame_text steps top ++ lines_text (lower_end top 48) (highest peaks) band moments ++ name_text band top
     ++ band_range_text (highest peaks) top ++ peak_text peaks.filled top
+    ++ band_phases_text (lower_end top 48) band moments
+    ++ again_text (name_of_kind band.kind) (Some band.number) steps top
 
 -- of a band of which nothing was configured there is no text, and the next one stands in its place
 abbrev pub band_part_text : ℕ → ℕ → Band → List Moment → List ℕ

@@ -1,36 +1,40 @@
 -- The bars of a drawing: which entries engines had, from which step to which, and in which lanes.
 use Rattle.std.specs.Prelude.{ℕ, zero, suc, ◌+◌, ◌-◌, ◌^◌, ◌==◌, ◌&&◌, Bool, false, not, cond, nat_lt, nat_le, min, List, [], ◌∷◌}
 use Rattle.std.specs.Prelude.{◌++◌, length, set, Option, Some, None, slice_get, option_and_then}
+use Rattle.dsa_desc.specs.declared.Descriptor.{Descriptor}
 use Rattle.dsa_book.specs.declared.answer.Reply.{Reply, TheVariants.{Submit, Dispatch, Fetch, Start}}
 use Rattle.dsa_book.specs.declared.answer.{SubmitAnswer.{SubmitAnswer, TheVariants.{Accepted}}}
 use Rattle.dsa_book.specs.declared.answer.{DispatchAnswer.{DispatchAnswer, TheVariants.{Taken}}}
 use Rattle.dsa_book.specs.declared.answer.{FetchAnswer.{FetchAnswer, TheVariants.{Fetched}}}
 use Rattle.dsa_book.specs.declared.answer.{StartAnswer.{StartAnswer, TheVariants.{Started}}}
-use Rattle.dsa_book.specs.declared.event.{Actor.{Actor, TheVariants.{Engine}}}
+use Rattle.dsa_book.specs.declared.event.{Actor.{Actor, TheVariants.{Client, Engine}}}
 use Rattle.dsa_book.specs.declared.fate.FateRow.{FateRow}
 use Rattle.dsa_book.specs.Totals.{actor_of}
 use Rattle.dsa_scenario.specs.declared.run.Record.{Record, TheVariants.{Stepped, Refused}}
-use Rattle.dsa_draw.specs.declared.bars.{Bar.{Bar}, End.{End}, Table.{Table}}
+use Rattle.dsa_draw.specs.declared.bars.{Arrival.{Arrival}, Bar.{Bar}, End.{End}, Table.{Table}}
 use Rattle.dsa_draw.specs.declared.moment.Moment.{Moment}
 use Rattle.dsa_draw.specs.{Bands.{next_step}, Rows.{rows_between}}
 
 -- ---- which entries
 
--- the bars in the order in which they begin, and for each name that was given the place of its bar
+-- the bars in the order in which they begin, and for each name that was given the place of its bar and who
+-- submitted it
 pub record NotedBars : Type 0 where
   pub bars : List Bar
   pub places : List (Option ℕ)
+  pub clients : List (Option ℕ)
 
 abbrev pub noted_in : Table → NotedBars
-noted_in table = record { bars = table.bars.items; places = table.places.items }
+noted_in table = record { bars = table.bars.items; places = table.places.items; clients = table.clients.items }
 
--- a name was given, and it has this bar, if any
+-- a name was given, to an entry of this client, if any, that has no bar yet
 abbrev pub with_name : Option ℕ → NotedBars → NotedBars
-with_name place noted = record noted { places = noted.places ++ place ∷ [] }
+with_name client noted =
+    record noted { places = noted.places ++ None ∷ []; clients = noted.clients ++ client ∷ [] }
 
 -- the bar comes last, and its name has it
 abbrev pub with_bar : Bar → NotedBars → NotedBars
-with_bar bar noted = record {
+with_bar bar noted = record noted {
   bars = noted.bars ++ bar ∷ [];
   places = set noted.places bar.name (Some (length noted.bars));
 }
@@ -48,6 +52,10 @@ changed_by change (Some place) bars = changed_at change place bars
 -- the place of the bar that a name has
 abbrev pub place_of : ℕ → List (Option ℕ) → Option ℕ
 place_of name places = option_and_then (λ place. place) (slice_get places name)
+
+-- who submitted the entry of a name
+abbrev pub submitter_in : ℕ → List (Option ℕ) → Option ℕ
+submitter_in name clients = option_and_then (λ client. client) (slice_get clients name)
 
 -- the bar that a name has, changed; nothing changes where it has none
 abbrev pub with_change : (Bar → Bar) → ℕ → NotedBars → NotedBars
@@ -72,67 +80,85 @@ abbrev pub is_batch_named : ℕ → Option ℕ → Bool
 is_batch_named name None = false
 is_batch_named name (Some batch) = batch == name
 
--- what comes to an engine with this step
-abbrev pub begun_bar : ℕ → ℕ → ℕ → Bar
-begun_bar name engine step = record {
+-- what comes to an engine so
+abbrev pub begun_bar : ℕ → Arrival → Bar
+begun_bar name arrival = record {
   name = name;
-  engine = engine;
+  engine = arrival.engine;
+  client = None;
+  desc = arrival.desc;
   parent = None;
   is_batch = false;
-  begin = step;
+  begin = arrival.step;
   started = None;
   end = None;
   lane = 0;
 }
 
--- what it took from a queue runs at once
-abbrev pub taken_bar : ℕ → ℕ → ℕ → Option ℕ → Bar
-taken_bar name engine step batch =
-    record (begun_bar name engine step) { is_batch = is_batch_named name batch; started = Some step }
+-- what it took from a queue was submitted by a client, and runs at once
+abbrev pub taken_bar : ℕ → Option ℕ → Arrival → Bar
+taken_bar name client arrival = record (begun_bar name arrival) {
+  client = client;
+  is_batch = is_batch_named name arrival.batch;
+  started = Some arrival.step;
+}
 
 -- what it fetched is a member of its batch, and is to be started
-abbrev pub fetched_bar : ℕ → ℕ → ℕ → Option ℕ → Bar
-fetched_bar name engine step batch = record (begun_bar name engine step) { parent = batch }
+abbrev pub fetched_bar : ℕ → Arrival → Bar
+fetched_bar name arrival = record (begun_bar name arrival) { parent = arrival.batch }
 
 -- the engine whose step it was; 0 where it was of none
 abbrev pub engine_of_actor : Actor → ℕ
 engine_of_actor (Engine engine) = engine
 engine_of_actor _ = 0
 
-abbrev pub noted_submit : SubmitAnswer → NotedBars → NotedBars
-noted_submit (Accepted ticket) noted = with_name None noted
-noted_submit _ noted = noted
+-- the client whose step it was
+abbrev pub client_of_actor : Actor → Option ℕ
+client_of_actor (Client client) = Some client
+client_of_actor _ = None
 
-abbrev pub noted_dispatch : ℕ → ℕ → Option ℕ → DispatchAnswer → NotedBars → NotedBars
-noted_dispatch step engine batch (Taken ticket queue) noted = with_bar (taken_bar ticket.name engine step batch) noted
-noted_dispatch step engine batch _ noted = noted
+-- how the step of this actor, of which this is the moment, brings an entry to its engine
+abbrev pub arrival_of : ℕ → Actor → Moment → Arrival
+arrival_of step actor moment =
+    record { engine = engine_of_actor actor; step = step; batch = moment.batch; desc = moment.desc }
 
-abbrev pub noted_fetch : ℕ → ℕ → Option ℕ → FetchAnswer → NotedBars → NotedBars
-noted_fetch step engine batch (Fetched ticket) noted =
-    with_bar (fetched_bar ticket.name engine step batch) (with_name None noted)
-noted_fetch step engine batch _ noted = noted
+abbrev pub noted_submit : Actor → SubmitAnswer → NotedBars → NotedBars
+noted_submit actor (Accepted ticket) noted = with_name (client_of_actor actor) noted
+noted_submit actor _ noted = noted
+
+abbrev pub noted_dispatch : Arrival → DispatchAnswer → NotedBars → NotedBars
+noted_dispatch arrival (Taken ticket queue) noted =
+    with_bar (taken_bar ticket.name (submitter_in ticket.name noted.clients) arrival) noted
+noted_dispatch arrival _ noted = noted
+
+abbrev pub noted_fetch : Arrival → FetchAnswer → NotedBars → NotedBars
+noted_fetch arrival (Fetched ticket) noted = with_bar (fetched_bar ticket.name arrival) (with_name None noted)
+noted_fetch arrival _ noted = noted
 
 abbrev pub noted_start : ℕ → StartAnswer → NotedBars → NotedBars
 noted_start step (Started ticket) noted = with_change (started_at step) ticket.name noted
 noted_start step _ noted = noted
 
--- what a step brought to its engine, which then works on this batch
-abbrev pub noted_reply : ℕ → ℕ → Option ℕ → Reply → NotedBars → NotedBars
-noted_reply step engine batch (Submit answer) noted = noted_submit answer noted
-noted_reply step engine batch (Dispatch answer) noted = noted_dispatch step engine batch answer noted
-noted_reply step engine batch (Fetch answer) noted = noted_fetch step engine batch answer noted
-noted_reply step engine batch (Start answer) noted = noted_start step answer noted
-noted_reply step engine batch _ noted = noted
+-- what the step of this actor brought to its engine
+abbrev pub noted_reply : Actor → Arrival → Reply → NotedBars → NotedBars
+noted_reply actor arrival (Submit answer) noted = noted_submit actor answer noted
+noted_reply actor arrival (Dispatch answer) noted = noted_dispatch arrival answer noted
+noted_reply actor arrival (Fetch answer) noted = noted_fetch arrival answer noted
+noted_reply actor arrival (Start answer) noted = noted_start arrival.step answer noted
+noted_reply actor arrival _ noted = noted
 
-abbrev pub noted_record : ℕ → Option ℕ → Record → NotedBars → NotedBars
-noted_record step batch (Stepped made) noted =
-    noted_reply step (engine_of_actor (actor_of made.event)) batch made.reply noted
-noted_record step batch (Refused fault) noted = noted
+abbrev pub noted_by : ℕ → Moment → Record → NotedBars → NotedBars
+noted_by step moment (Stepped made) noted =
+    noted_reply (actor_of made.event) (arrival_of step (actor_of made.event) moment) made.reply noted
+noted_by step moment (Refused fault) noted = noted
+
+abbrev pub noted_entry : ℕ → Moment → NotedBars → NotedBars
+noted_entry step moment noted = noted_by step moment moment.entry noted
 
 -- what a step brought, and then what ended with it; before it so many entries had ended
 abbrev pub noted_moment : List FateRow → ℕ → ℕ → Moment → NotedBars → NotedBars
 noted_moment fates step ended moment noted =
-    with_ends step (rows_between fates ended moment.ended) (noted_record step moment.batch moment.entry noted)
+    with_ends step (rows_between fates ended moment.ended) (noted_entry step moment noted)
 
 -- after all of these moments, the first one's step of this number
 abbrev pub noted_moments : List FateRow → ℕ → ℕ → List Moment → NotedBars → NotedBars
@@ -142,7 +168,7 @@ noted_moments fates step ended (moment ∷ moments) noted =
 
 -- the bars of a run
 abbrev pub bars_of : List Moment → List FateRow → List Bar
-bars_of moments fates = (noted_moments fates 0 0 moments (record { bars = []; places = [] })).bars
+bars_of moments fates = (noted_moments fates 0 0 moments (record { bars = []; places = []; clients = [] })).bars
 
 -- ---- lanes
 

@@ -1,13 +1,13 @@
 -- The columns of a drawing, as text: one for each step, with what it was asked and what it answered.
 use Rattle.std.specs.Prelude.{ℕ, ◌+◌, ◌-◌, ◌*◌, ◌%◌, ◌==◌, cond, List, [], ◌∷◌, ◌++◌, codes, decimal}
-use Rattle.dsa_event_text.specs.Text.{event_text}
+use Rattle.dsa_event_text.specs.Text.{bad_word_text, event_text}
 use Rattle.dsa_scenario.specs.{declared.run.Record.{Record, TheVariants.{Stepped, Refused}}, Lines.{record_text}}
 use Rattle.dsa_draw.specs.{declared.moment.Moment.{Moment}, Bands.{next_step}, Pages.{rect_text}}
 
 -- what was asked; a word that is no command is no event (profile)
 abbrev pub asked_text : Record → List ℕ
 asked_text (Stepped step) = event_text step.event
-asked_text (Refused fault) = codes "command"
+asked_text (Refused refused) = bad_word_text refused.word
 
 -- ---- columns
 
@@ -17,9 +17,9 @@ title_text step entry =
     codes "step " ++ decimal step ++ codes ": " ++ asked_text entry ++ codes ": " ++ record_text entry
 
 -- a column on a page that is so high
-abbrev pub column_text : ℕ → ℕ → Record → List ℕ
-column_text height step entry =
-    rect_text (codes "column") step 80 14 (height - 80) ++ codes "><title>" ++ title_text step entry
+abbrev pub column_text : ℕ → ℕ → Moment → List ℕ
+column_text height column moment =
+    rect_text (codes "column") column 80 14 (height - 80) ++ codes "><title>" ++ title_text moment.number moment.entry
     ++ codes "</title></rect>\n"
 
 -- a line, and the number of the step behind it
@@ -28,19 +28,20 @@ grid_text height step =
     codes "<path class=\"grid\" d=\"M" ++ decimal (112 + 14 * step) ++ codes " 80v" ++ decimal (height - 80)
     ++ codes "\"/>\n"
 
-unfoldable pub label_text : ℕ → List ℕ
-label_text step =
-    codes "<text x=\"" ++ decimal (112 + 14 * step + 2) ++ codes "\" y=\"91\">" ++ decimal step ++ codes "</text>\n"
+unfoldable pub label_text : ℕ → ℕ → List ℕ
+label_text column step =
+    codes "<text x=\"" ++ decimal (112 + 14 * column + 2) ++ codes "\" y=\"91\">" ++ decimal step ++ codes "</text>\n"
 
-abbrev pub step_number_text : ℕ → ℕ → List ℕ
-step_number_text height step = grid_text height step ++ label_text step
+abbrev pub step_number_text : ℕ → ℕ → ℕ → List ℕ
+step_number_text height column step = grid_text height column ++ label_text column step
 
 -- of every fifth step
-abbrev pub fifth_text : ℕ → ℕ → List ℕ
-fifth_text height step = cond (step % 5 == 0) (step_number_text height step) []
+abbrev pub fifth_text : ℕ → ℕ → ℕ → List ℕ
+fifth_text height column step = cond (step % 5 == 0) (step_number_text height column step) []
 
--- a column for each moment, the first one's step of this number
+-- a column for each moment, of which the first has this number
 abbrev pub columns_text : ℕ → ℕ → List Moment → List ℕ
-columns_text height step [] = []
-columns_text height step (moment ∷ moments) =
-    fifth_text height step ++ column_text height step moment.entry ++ columns_text height (next_step step) moments
+columns_text height column [] = []
+columns_text height column (moment ∷ moments) =
+    fifth_text height column moment.number ++ column_text height column moment
+    ++ columns_text height (next_step column) moments

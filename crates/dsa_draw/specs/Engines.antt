@@ -1,14 +1,19 @@
 -- The rows of the engines, as text: a mark for each step of an engine, and a bar for each entry that it had.
 use Rattle.std.specs.Prelude.{ℕ, ◌+◌, ◌-◌, ◌*◌, ◌^◌, ◌==◌, ◌&&◌, Bool, true, false, cond, nat_lt, min, List, [], ◌∷◌}
 use Rattle.std.specs.Prelude.{◌++◌, codes, decimal, Option, Some, None, is_some, option_and_then, unwrap_or}
+use Rattle.dsa_desc.specs.declared.Descriptor.{Descriptor}
+use Rattle.dsa_event_text.specs.Text.{descriptor_text}
 use Rattle.dsa_book.specs.declared.event.Actor.TheVariants.{Engine}
 use Rattle.dsa_book.specs.declared.fate.{Fate.{Fate, TheVariants.{Completed, Aborted, Abandoned}}}
 use Rattle.dsa_book.specs.Totals.{actor_of, same_actor}
 use Rattle.dsa_scenario.specs.declared.run.Record.{Record, TheVariants.{Stepped, Refused}}
 use Rattle.dsa_scenario.specs.Lines.{two_digits}
-use Rattle.dsa_draw.specs.declared.engines.{Lanes.{Lanes}, Sign.{Sign, TheVariants.{Cross, Slash}}}
+use Rattle.dsa_draw.specs.declared.{engines.Lanes.{Lanes}, labels.{Sign.{Sign, TheVariants.{Cross, Slash}}}}
 use Rattle.dsa_draw.specs.declared.{bars.{Bar.{Bar}, End.{End}}, moment.Moment.{Moment}}
-use Rattle.dsa_draw.specs.{Marks.{mark_of}, Bands.{next_step, lower_end, numbered_text}, Pages.{mark_text, rect_text, rule_text, small_number_text}}
+use Rattle.dsa_draw.specs.{Marks.{mark_of}, Bands.{again_text, next_step, lower_end, numbered_text}, Pages.{box_text, mark_text, rect_text, rule_text}}
+use Rattle.dsa_draw.specs.Labels.{bar_label_text, sign_of}
+use Rattle.dsa_draw.specs.declared.range.Extent.{Extent}
+use Rattle.dsa_draw.specs.Ranges.{column_of, columns_of, is_in_range, moments_in}
 use Rattle.dsa_draw.specs.Bars.{end_step, in_lanes, all_lanes, lane_count}
 
 -- ---- marks
@@ -42,29 +47,23 @@ abbrev pub class_of_end : Option End → List ℕ
 class_of_end None = codes "held"
 class_of_end (Some end) = class_of_fate end.fate
 
--- beside the colour: a cross where the entry was not successful, a slash where it was aborted or abandoned
-abbrev pub sign_of_fate : Fate → Option Sign
-sign_of_fate (Completed status) = cond (status == 1) None (Some Cross)
-sign_of_fate _ = Some Slash
-
--- while it is held there is none
-abbrev pub sign_of : Option End → Option Sign
-sign_of end = option_and_then (λ end. sign_of_fate end.fate) end
-
 abbrev pub fate_phrase : Fate → List ℕ
 fate_phrase (Completed status) = codes "completed " ++ two_digits status
 fate_phrase (Aborted command) = codes "aborted by command " ++ decimal command
 fate_phrase Abandoned = codes "abandoned"
 
 unfoldable pub kind_phrase : Bool → List ℕ
-kind_phrase true = codes "batch"
-kind_phrase false = codes "entry"
+kind_phrase true = codes "batch "
+kind_phrase false = codes "entry "
 
-unfoldable pub holder_phrase : ℕ → ℕ → List ℕ
-holder_phrase name engine = codes " " ++ decimal name ++ codes " on e" ++ decimal engine
+-- what the entry asks for
+abbrev pub work_phrase : Option Descriptor → List ℕ
+work_phrase None = []
+work_phrase (Some desc) = codes ": " ++ descriptor_text desc ++ codes ", PASID " ++ decimal desc.pasid
 
-unfoldable pub begin_phrase : ℕ → List ℕ
-begin_phrase step = codes ", from step " ++ decimal step
+abbrev pub client_phrase : Option ℕ → List ℕ
+client_phrase None = []
+client_phrase (Some client) = codes ", client " ++ decimal client
 
 abbrev pub parent_phrase : Option ℕ → List ℕ
 parent_phrase None = []
@@ -74,31 +73,22 @@ abbrev pub end_phrase : Option End → List ℕ
 end_phrase None = codes ", still held"
 end_phrase (Some end) = codes " to " ++ decimal end.step ++ codes ": " ++ fate_phrase end.fate
 
--- what the bar is of, and how it ended
-unfoldable pub bar_title_text : Bar → List ℕ
-bar_title_text bar =
-    codes "<title>" ++ kind_phrase bar.is_batch ++ holder_phrase bar.name bar.engine ++ parent_phrase bar.parent
-    ++ begin_phrase bar.begin ++ end_phrase bar.end ++ codes "</title>"
+-- what the bar is of
+abbrev pub entry_phrase : Bar → List ℕ
+entry_phrase bar =
+    kind_phrase bar.is_batch ++ decimal bar.name ++ work_phrase bar.desc ++ client_phrase bar.client
+    ++ parent_phrase bar.parent
 
--- over the columns from `begin` on to before `end`
-abbrev pub box_text : List ℕ → ℕ → ℕ → ℕ → List ℕ
-box_text class begin end y = rect_text class begin y (14 * (end - begin)) 11 ++ codes " rx=\"2\"/>"
+-- from where to where it goes, and how it ended
+abbrev pub steps_phrase : Bar → List ℕ
+steps_phrase bar =
+    codes ", on e" ++ decimal bar.engine ++ codes " from step " ++ decimal bar.begin ++ end_phrase bar.end
+
+unfoldable pub bar_title_text : Bar → List ℕ
+bar_title_text bar = codes "<title>" ++ entry_phrase bar ++ steps_phrase bar ++ codes "</title>"
 
 abbrev pub box_part_text : List ℕ → ℕ → ℕ → ℕ → List ℕ
 box_part_text class begin end y = cond (nat_lt begin end) (box_text class begin end y) []
-
--- so much room a name needs
-abbrev pub name_room : ℕ → ℕ
-name_room name = cond (nat_lt name 100) 14 (cond (nat_lt name 10_000) 28 56)
-
--- a sign takes as much as one digit more
-abbrev pub bar_room : Bar → ℕ
-bar_room bar = name_room (cond (is_some (sign_of bar.end)) (10 * bar.name) bar.name)
-
--- the name of the entry, where the bar has room for it
-abbrev pub bar_name_text : Bar → ℕ → ℕ → List ℕ
-bar_name_text bar end base =
-    cond (nat_lt (14 * (end - bar.begin)) (bar_room bar)) [] (small_number_text bar.begin base bar.name)
 
 -- the strokes of a sign, 4 wide and 4 high
 abbrev pub strokes_text : Sign → List ℕ
@@ -123,23 +113,32 @@ lane_by lanes lane (Some batch) = lower_end lanes.taken lane
 abbrev pub bar_top : Lanes → Bar → ℕ
 bar_top lanes bar = lanes.top + 13 * lane_by lanes bar.lane bar.parent
 
--- a box until it starts, a box until it ends, its name, and a sign at its end
-abbrev pub boxes_text : Bar → ℕ → ℕ → ℕ → List ℕ
-boxes_text bar runs end y =
-    box_part_text (codes "waits") bar.begin runs y ++ box_part_text (class_of_end bar.end) runs end y
-    ++ bar_name_text bar end (y + 9) ++ end_sign_text (sign_of bar.end) end (y + 4)
+-- a box until it starts, a box until it ends, its label, and a sign at its end
+abbrev pub boxes_in_columns : Bar → ℕ → ℕ → ℕ → ℕ → List ℕ
+boxes_in_columns bar begin runs end y =
+    box_part_text (codes "waits") begin runs y ++ box_part_text (class_of_end bar.end) runs end y
+    ++ bar_label_text bar begin end (y + 9) ++ end_sign_text (sign_of bar.end) end (y + 4)
+
+abbrev pub boxes_text : Extent → Bar → ℕ → List ℕ
+boxes_text extent bar y =
+    boxes_in_columns bar (column_of extent.range bar.begin)
+    (column_of extent.range (unwrap_or bar.started (end_step extent.last bar)))
+    (column_of extent.range (end_step extent.last bar)) y
 
 abbrev pub bar_text : Lanes → Bar → List ℕ
 bar_text lanes bar =
-    codes "<g>" ++ bar_title_text bar
-    ++ boxes_text bar (unwrap_or bar.started (end_step lanes.last bar)) (end_step lanes.last bar) (bar_top lanes bar)
-    ++ codes "</g>\n"
+    codes "<g>" ++ bar_title_text bar ++ boxes_text lanes.extent bar (bar_top lanes bar) ++ codes "</g>\n"
+
+-- the engine had it, in a step that is drawn
+abbrev pub is_shown : ℕ → Extent → Bar → Bool
+is_shown engine extent bar =
+    bar.engine == engine && is_in_range extent.range bar.begin (end_step extent.last bar)
 
 -- each bar of the engine
 abbrev pub bars_text : ℕ → Lanes → List Bar → List ℕ
 bars_text engine lanes [] = []
 bars_text engine lanes (bar ∷ bars) =
-    cond (bar.engine == engine) (bar_text lanes bar) [] ++ bars_text engine lanes bars
+    cond (is_shown engine lanes.extent bar) (bar_text lanes bar) [] ++ bars_text engine lanes bars
 
 -- ---- batches
 
@@ -155,14 +154,16 @@ batch_title_text engine name =
 -- a box around a batch and its members
 abbrev pub batch_text : Lanes → Bar → List ℕ
 batch_text lanes bar =
-    rect_text (codes "batch") bar.begin (lanes.top + 13 * bar.lane) (14 * (end_step lanes.last bar - bar.begin))
+    rect_text (codes "batch") (column_of lanes.extent.range bar.begin) (lanes.top + 13 * bar.lane)
+    (14 * (column_of lanes.extent.range (end_step lanes.extent.last bar) - column_of lanes.extent.range bar.begin))
     (lanes_bottom lanes - (lanes.top + 13 * bar.lane))
     ++ batch_title_text bar.engine bar.name
 
 abbrev pub batches_text : ℕ → Lanes → List Bar → List ℕ
 batches_text engine lanes [] = []
 batches_text engine lanes (bar ∷ bars) =
-    cond (bar.engine == engine && bar.is_batch) (batch_text lanes bar) [] ++ batches_text engine lanes bars
+    cond (is_shown engine lanes.extent bar && bar.is_batch) (batch_text lanes bar) []
+    ++ batches_text engine lanes bars
 
 -- ---- engines
 
@@ -174,12 +175,12 @@ abbrev pub bars_in_lanes : ℕ → ℕ → List Bar → List Bar
 bars_in_lanes engine steps bars = in_lanes engine true steps [] (taken_in_lanes engine steps bars)
 
 -- the lanes of an engine whose row begins at `top`
-abbrev pub lanes_of : ℕ → ℕ → ℕ → List Bar → Lanes
-lanes_of engine steps top bars = record {
+abbrev pub lanes_of : ℕ → Extent → ℕ → List Bar → Lanes
+lanes_of engine extent top bars = record {
   top = lower_end top 18;
-  taken = lane_count (all_lanes engine false steps [] bars);
-  members = lane_count (all_lanes engine true steps [] (taken_in_lanes engine steps bars));
-  last = steps;
+  taken = lane_count (all_lanes engine false extent.last [] bars);
+  members = lane_count (all_lanes engine true extent.last [] (taken_in_lanes engine extent.last bars));
+  extent = extent;
 }
 
 -- so much is 13 times as high; heights have 32 bits
@@ -189,29 +190,35 @@ lanes_high lanes = min (lanes * 13) (2 ^ 32 - 1)
 abbrev pub engine_bottom : Lanes → ℕ
 engine_bottom lanes = lower_end (lower_end lanes.top (lanes_high (lower_end lanes.taken lanes.members))) 4
 
-abbrev pub engine_rows_text : ℕ → ℕ → ℕ → List Moment → Lanes → List Bar → List ℕ
-engine_rows_text engine steps top moments lanes bars =
-    numbered_text (codes "engine") engine top ++ engine_marks_text engine top 0 moments
-    ++ batches_text engine lanes bars ++ bars_text engine lanes bars ++ rule_text steps (engine_bottom lanes)
+-- the name of an engine's rows, and that name again
+unfoldable pub engine_name_text : ℕ → ℕ → ℕ → List ℕ
+engine_name_text engine steps top =
+    numbered_text (codes "engine") engine top ++ again_text (codes "engine") (Some engine) steps top
+
+abbrev pub engine_rows_text : ℕ → ℕ → List Moment → Lanes → List Bar → List ℕ
+engine_rows_text engine top moments lanes bars =
+    engine_name_text engine (columns_of lanes.extent) top
+    ++ engine_marks_text engine top 0 (moments_in lanes.extent.range moments) ++ batches_text engine lanes bars
+    ++ bars_text engine lanes bars ++ rule_text (columns_of lanes.extent) (engine_bottom lanes)
 
 -- of an engine that made no step there is no text, and the next one is in its place
-abbrev pub engine_part_text : ℕ → ℕ → ℕ → List Moment → List Bar → List ℕ
-engine_part_text engine steps top moments bars =
+abbrev pub engine_part_text : ℕ → Extent → ℕ → List Moment → List Bar → List ℕ
+engine_part_text engine extent top moments bars =
     cond (has_steps engine moments)
-    (engine_rows_text engine steps top moments (lanes_of engine steps top bars) (bars_in_lanes engine steps bars)) []
+    (engine_rows_text engine top moments (lanes_of engine extent top bars) (bars_in_lanes engine extent.last bars)) []
 
-abbrev pub engine_end : ℕ → ℕ → ℕ → List Moment → List Bar → ℕ
-engine_end engine steps top moments bars =
-    cond (has_steps engine moments) (lower_end (engine_bottom (lanes_of engine steps top bars)) 4) top
+abbrev pub engine_end : ℕ → Extent → ℕ → List Moment → List Bar → ℕ
+engine_end engine extent top moments bars =
+    cond (has_steps engine moments) (lower_end (engine_bottom (lanes_of engine extent top bars)) 4) top
 
 -- engines below one another, and where they end
-abbrev pub engines_text : ℕ → ℕ → List ℕ → List Moment → List Bar → List ℕ
-engines_text steps top [] moments bars = []
-engines_text steps top (engine ∷ engines) moments bars =
-    engine_part_text engine steps top moments bars
-    ++ engines_text steps (engine_end engine steps top moments bars) engines moments bars
+abbrev pub engines_text : Extent → ℕ → List ℕ → List Moment → List Bar → List ℕ
+engines_text extent top [] moments bars = []
+engines_text extent top (engine ∷ engines) moments bars =
+    engine_part_text engine extent top moments bars
+    ++ engines_text extent (engine_end engine extent top moments bars) engines moments bars
 
-abbrev pub engines_end : ℕ → ℕ → List ℕ → List Moment → List Bar → ℕ
-engines_end steps top [] moments bars = top
-engines_end steps top (engine ∷ engines) moments bars =
-    engines_end steps (engine_end engine steps top moments bars) engines moments bars
+abbrev pub engines_end : Extent → ℕ → List ℕ → List Moment → List Bar → ℕ
+engines_end extent top [] moments bars = top
+engines_end extent top (engine ∷ engines) moments bars =
+    engines_end extent (engine_end engine extent top moments bars) engines moments bars

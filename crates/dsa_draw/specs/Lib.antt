@@ -1,10 +1,13 @@
+pub mod Active
 pub mod Bands
 pub mod Bars
 pub mod Columns
 pub mod Drawings
 pub mod Engines
+pub mod Labels
 pub mod Marks
 pub mod Moments
 pub mod Pages
+pub mod Ranges
 pub mod Rows
 pub mod Worked

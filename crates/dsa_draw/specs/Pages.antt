@@ -1,7 +1,7 @@
 -- Pieces of a page, as text: its head and its foot, names, lines and marks.
-use Rattle.std.specs.Prelude.{ℕ, ◌+◌, ◌-◌, ◌*◌, List, ◌++◌, codes, decimal}
+use Rattle.std.specs.Prelude.{ℕ, ◌+◌, ◌-◌, ◌*◌, ◌==◌, cond, List, ◌++◌, codes, decimal}
 use Rattle.dsa_event_text.specs.Text.{count_text}
-use Rattle.dsa_draw.specs.Bands.{lower_end}
+use Rattle.dsa_draw.specs.{Bands.{lower_end}, Ranges.{columns_of}, declared.range.Extent.{Extent}}
 use Rattle.dsa_draw.specs.declared.{page.TheConstants.{STYLE, DESCRIPTION, LEGEND}, marks.Mark.{Mark, TheVariants.{Done, Wait, Failed}}}
 
 -- ---- head and foot
@@ -24,11 +24,26 @@ svg_text = codes "<svg xmlns=\"http://www.w3.org/2000/svg\""
 unfoldable pub description_text : List ℕ
 description_text = DESCRIPTION.now
 
-unfoldable pub run_title_text : ℕ → List ℕ
-run_title_text steps = count_text (codes "<title>Run of ") steps (codes "step") (codes "steps")
+unfoldable pub whole_title_text : ℕ → List ℕ
+whole_title_text steps = count_text (codes "<title>Run of ") steps (codes "step") (codes "steps")
 
-abbrev pub told_text : ℕ → List ℕ
-told_text steps = run_title_text steps ++ codes "</title>\n" ++ description_text
+unfoldable pub some_steps_text : ℕ → List ℕ
+some_steps_text steps = count_text (codes "<title>") steps (codes "step") (codes "steps")
+
+unfoldable pub of_run_text : ℕ → List ℕ
+of_run_text steps = count_text (codes " of a run of ") steps (codes "step") (codes "steps")
+
+abbrev pub part_title_text : Extent → List ℕ
+part_title_text extent =
+    some_steps_text (columns_of extent) ++ codes " from step " ++ decimal extent.range.first ++ of_run_text extent.last
+
+-- some steps of a run, or all
+abbrev pub run_title_text : Extent → List ℕ
+run_title_text extent =
+    cond (columns_of extent == extent.last) (whole_title_text extent.last) (part_title_text extent)
+
+abbrev pub told_text : Extent → List ℕ
+told_text extent = run_title_text extent ++ codes "</title>\n" ++ description_text
 
 -- the colours, for light and for dark
 unfoldable pub style_text : List ℕ
@@ -45,21 +60,30 @@ rect_text class step y wide high =
     codes "<rect class=\"" ++ class ++ codes "\" x=\"" ++ decimal (112 + 14 * step) ++ codes "\" y=\"" ++ decimal y
     ++ codes "\" width=\"" ++ decimal wide ++ codes "\" height=\"" ++ decimal high ++ codes "\""
 
--- a small number in the column of a step
-unfoldable pub small_number_text : ℕ → ℕ → ℕ → List ℕ
-small_number_text step base number =
+-- a box over the columns from `begin` on to before `end`
+abbrev pub box_text : List ℕ → ℕ → ℕ → ℕ → List ℕ
+box_text class begin end y = rect_text class begin y (14 * (end - begin)) 11 ++ codes " rx=\"2\"/>"
+
+-- small letters from the column of a step on
+unfoldable pub letters_text : ℕ → ℕ → List ℕ → List ℕ
+letters_text step base letters =
     codes "<text class=\"label\" x=\"" ++ decimal (112 + 14 * step + 2) ++ codes "\" y=\"" ++ decimal base
-    ++ codes "\">" ++ decimal number ++ codes "</text>"
+    ++ codes "\">" ++ letters ++ codes "</text>"
 
--- the height of a page whose rows are so high: 28 above them for long commands, and a legend of 168 below
+-- a small number there
+abbrev pub small_number_text : ℕ → ℕ → ℕ → List ℕ
+small_number_text step base number = letters_text step base (decimal number)
+
+-- the height of a page whose rows are so high: 28 above them for long commands, and a legend of 207 below
 abbrev pub page_height : ℕ → ℕ
-page_height rows = lower_end rows 196
+page_height rows = lower_end rows 235
 
--- the head of a page of so many steps, whose rows are so high
-abbrev pub head_text : ℕ → ℕ → List ℕ
-head_text steps rows =
-    svg_text ++ page_size_text (page_width steps) (page_height rows) ++ view_text (page_width steps) (page_height rows)
-    ++ told_text steps ++ style_text ++ sheet_text (page_width steps) (page_height rows)
+-- the head of a page with these steps, whose rows are so high
+abbrev pub head_text : Extent → ℕ → List ℕ
+head_text extent rows =
+    svg_text ++ page_size_text (page_width (columns_of extent)) (page_height rows)
+    ++ view_text (page_width (columns_of extent)) (page_height rows) ++ told_text extent ++ style_text
+    ++ sheet_text (page_width (columns_of extent)) (page_height rows)
 
 -- the shapes of the legend with their meanings, and the legend below rows that are so high
 unfoldable pub shapes_text : List ℕ

@@ -1,32 +1,39 @@
 -- Bars, entries, levels and steps that the worked rows speak of.
 use Rattle.dsa_book.specs.declared.answer.Reply.TheVariants as reply
+use Rattle.dsa_book.specs.declared.answer.PollAnswer.TheVariants as poll
 use Rattle.dsa_book.specs.declared.event.Event.TheVariants as event
-use Rattle.std.specs.Prelude.{ℕ, ◌≤◌, false, List, [], ◌∷◌, length, Option, None, Some, ⊤}
+use Rattle.std.specs.Prelude.{ℕ, ◌+◌, ◌≤◌, false, List, [], ◌∷◌, length, Option, None, Some, ⊤}
 use Rattle.std.proofs.Common.{arith, lit≤, refl}
 use denote.RawPtr.{null_ptr}
 use Rattle.std.specs.declared.{alloc.Global.{Global}, vec.Vec.{Vec}}
 use Rattle.dsa_book.specs.declared.answer.{DispatchAnswer.TheVariants.{Idle, Taken}, FetchAnswer.TheVariants.{Fetched}}
+use Rattle.dsa_book.specs.declared.answer.IssueAnswer.TheVariants.{Active}
+use Rattle.dsa_regs.specs.declared.Command.TheVariants.{DrainPasid}
 use Rattle.dsa_book.specs.declared.answer.{FinishAnswer.TheVariants.{Done}, StartAnswer.TheVariants.{Started}}
 use Rattle.dsa_book.specs.declared.fate.{Fate.{Fate, TheVariants.{Abandoned, Completed}}, FateRow.{FateRow}}
 use Rattle.dsa_book.specs.declared.event.{Kind.TheVariants.{Movdir64b}, Portal.TheVariants.{Limited}}
 use Rattle.dsa_book.specs.declared.answer.SubmitAnswer.TheVariants.{Accepted}
 use Rattle.dsa_book.specs.State.{opening}
 use Rattle.dsa_device.specs.Running.{Running, running_at_first}
+use Rattle.dsa_regs.specs.declared.Phase.{Phase, TheVariants.{Off, On, Stopping}}
 use Rattle.dsa_regs.specs.{Config.{zero_group}, declared.Caps.{Caps}}
-use Rattle.dsa_desc.specs.declared.Outcome.TheVariants.{Success}
+use Rattle.dsa_desc.specs.declared.{Descriptor.{Descriptor}, Outcome.TheVariants.{Success}}
 use Rattle.dsa_scenario.specs.declared.run.Record.{Record}
 use Rattle.dsa_scenario.specs.{Steps.{Visit, visit}, Worked.{caps_of_a_run, digits_on_literals, fill, group_of_a_run, queue_of_a_run}}
 use Rattle.dsa_scenario.specs.Worked.{accepted, record_ticket, stepped}
-use Rattle.dsa_draw.specs.declared.{bars.{Bar.{Bar}, End.{End}}, engines.Lanes.{Lanes}}
+use Rattle.dsa_draw.specs.declared.{bars.{Bar.{Bar}, End.{End}}, engines.Lanes.{Lanes}, range.Extent.{Extent}}
 use Rattle.dsa_draw.specs.declared.bands.Band.{Band}
 use Rattle.dsa_draw.specs.declared.moment.{BandKind.TheVariants.{Queue, Group}, Level.{Level}, Moment.{Moment}}
 use Rattle.dsa_draw.specs.declared.run.Story.{Story}
-use Rattle.dsa_draw.specs.Pages.{svg_text, page_size_text, view_text, run_title_text, sheet_text, legend_text, row_name_text, rule_text, dot_text}
-use Rattle.dsa_draw.specs.Pages.{cross_text, rect_text, small_number_text}
+use Rattle.dsa_draw.specs.Pages.{svg_text, page_size_text, view_text, whole_title_text, some_steps_text, of_run_text}
+use Rattle.dsa_draw.specs.Pages.{sheet_text, legend_text, row_name_text, rule_text, dot_text}
+use Rattle.dsa_draw.specs.Pages.{cross_text, rect_text, letters_text}
 use Rattle.dsa_draw.specs.Bands.{lines_text, frame_text, name_text, band_range_text, peak_text, band_text}
+use Rattle.dsa_draw.specs.Bands.{again_place_text, phase_line_text, phase_line_title}
 use Rattle.dsa_draw.specs.Columns.{title_text, grid_text, label_text}
 use Rattle.dsa_draw.specs.Rows.{command_place_text, ended_head_text, names_above_text}
-use Rattle.dsa_draw.specs.Engines.{kind_phrase, holder_phrase, begin_phrase, bar_title_text, batch_title_text, sign_text}
+use Rattle.dsa_draw.specs.Active.{finished_text, wait_words}
+use Rattle.dsa_draw.specs.Engines.{kind_phrase, bar_title_text, batch_title_text, engine_name_text, sign_text}
 
 -- the band of the queue, or of the group, with this number
 abbrev pub queue_band : ℕ → Band
@@ -38,9 +45,11 @@ group_band number = record { kind = Group; number = number }
 -- what the rows unfold to compute texts
 unfoldable pub drawn_on_literals : ⊤
 unfolding digits_on_literals lines_text frame_text name_text band_range_text peak_text band_text title_text grid_text
-    label_text svg_text page_size_text view_text run_title_text sheet_text legend_text rect_text small_number_text
+    label_text svg_text page_size_text view_text whole_title_text some_steps_text of_run_text sheet_text
+    legend_text rect_text letters_text
     row_name_text rule_text dot_text cross_text command_place_text ended_head_text names_above_text kind_phrase
-    holder_phrase begin_phrase bar_title_text batch_title_text sign_text
+    bar_title_text batch_title_text sign_text finished_text wait_words
+    phase_line_text phase_line_title again_place_text engine_name_text
 drawn_on_literals = tt
 
 -- the fate row of an entry that no batch has
@@ -56,32 +65,83 @@ abbrev pub bar_from : ℕ → Option ℕ → ℕ → Option End → Bar
 bar_from name parent begin end = record {
   name = name;
   engine = 1;
+  desc = None;
+  client = None;
   parent = parent;
-  is_batch = false;
-  begin = begin;
   started = Some begin;
-  end = end;
+  is_batch = false;
   lane = 0;
+  begin = begin;
+  end = end;
 }
+
+-- a move of a page, of PASID 5
+abbrev pub move_of_a_page : Descriptor
+move_of_a_page = record { pasid = 5; flags = 0; op = 3; size = 4096 }
+
+-- entry 12 of engine 1, which is one
+abbrev pub bar_of_a_move : Bar
+bar_of_a_move = record (bar_from 12 None 2 None) { desc = Some move_of_a_page }
+
+-- all of so many steps
+abbrev pub whole_run : ℕ → Extent
+whole_run last = record { range = record { first = 0; end = last }; last = last }
+
+-- some of nine steps
+abbrev pub steps_two_to_four : Extent
+steps_two_to_four = record { range = record { first = 2; end = 5 }; last = 9 }
 
 -- the lanes of an engine from 200 on: two, and three of members, of a run of nine steps
 abbrev pub five_lanes : Lanes
-five_lanes = record { top = 200; taken = 2; members = 3; last = 9 }
+five_lanes = record { top = 200; taken = 2; members = 3; extent = whole_run 9 }
 
 -- what a step answered, the batch of its engine, and how many had ended
 abbrev pub moment_of : Vec Level Global → Record → Option ℕ → ℕ → Moment
 moment_of levels entry batch ended =
-    record { entry = entry; queues = levels; groups = levels; batch = batch; ended = ended }
+    record {
+      number = 0;
+      entry = entry;
+      phase = Off;
+      queues = levels;
+      groups = levels;
+      batch = batch;
+      desc = None;
+      ended = ended;
+    }
+
+-- these moments, with numbers from this one on
+abbrev pub numbered : ℕ → List Moment → List Moment
+numbered number [] = []
+numbered number (moment ∷ moments) = record moment { number = number } ∷ numbered (number + 1) moments
+
+-- a step at which the device has this phase
+abbrev pub moment_in_phase : Vec Level Global → Phase → Moment
+moment_in_phase levels phase =
+    record (moment_of levels (stepped (event.Dispatch 1) (reply.Dispatch Idle)) None 0) { phase = phase }
 
 -- batch 0 is accepted, engine 1 takes it, fetches member 1, starts it and ends it
 abbrev pub moments_of_a_batch : Vec Level Global → List Moment
 moments_of_a_batch levels =
     moment_of levels (stepped (event.Submit 5 0 Limited Movdir64b fill) (reply.Submit (Accepted (record_ticket 3 0))))
     None 0 ∷
-    moment_of levels (stepped (event.Dispatch 1) (reply.Dispatch (Taken (record_ticket 3 0) 0))) (Some 0) 0 ∷
-    moment_of levels (stepped (event.Fetch 1 fill) (reply.Fetch (Fetched (record_ticket 4 1)))) (Some 0) 0 ∷
+    record (moment_of levels (stepped (event.Dispatch 1) (reply.Dispatch (Taken (record_ticket 3 0) 0))) (Some 0) 0)
+    { desc = Some fill } ∷
+    record (moment_of levels (stepped (event.Fetch 1 fill) (reply.Fetch (Fetched (record_ticket 4 1)))) (Some 0) 0)
+    { desc = Some move_of_a_page } ∷
     moment_of levels (stepped (event.Start 1) (reply.Start (Started (record_ticket 4 1)))) (Some 0) 0 ∷
     moment_of levels (stepped (event.Finish 1 (record_ticket 4 1) Success) (reply.Finish (Done 1))) (Some 0) 1 ∷ []
+
+-- a Drain PASID is issued, and waits
+abbrev pub drain_issued : Record
+drain_issued = stepped (event.Issue (DrainPasid 5)) (reply.Issue Active)
+
+-- it is issued with the second step, and the fourth one reports its end
+abbrev pub moments_of_a_drain : Vec Level Global → List Moment
+moments_of_a_drain levels =
+    moment_of levels (stepped (event.Dispatch 1) (reply.Dispatch Idle)) None 0 ∷
+    moment_of levels drain_issued None 0 ∷
+    moment_of levels (stepped event.Poll (reply.Poll poll.Active)) None 0 ∷
+    moment_of levels (stepped event.Poll (reply.Poll poll.Finished)) None 0 ∷ []
 
 -- ---- lists as the code has them
 
@@ -98,15 +158,18 @@ vector memory items few = record {
 }
 
 abbrev pub level : ℕ → ℕ → ℕ → Level
-level filled mark limit = record { filled = filled; mark = mark; limit = limit }
+level filled mark limit = record { filled = filled; mark = mark; limit = limit; phase = None }
 
 -- what a step answered, with levels of two queues and of one group
 abbrev pub moment_with : Global → Record → Level → Level → Level → Moment
 moment_with memory entry first second group = record {
+  number = 0;
   entry = entry;
+  phase = Off;
   queues = vector memory (first ∷ second ∷ []) (lit≤ tt);
   groups = vector memory (group ∷ []) (lit≤ tt);
   batch = None;
+  desc = None;
   ended = 0;
 }
 
@@ -126,12 +189,15 @@ abbrev pub caps_of_a_drawing : Caps
 caps_of_a_drawing = record caps_of_a_run { groups = 3; engines = 2; max_batch_shift = 5 }
 
 -- the level of its queue, and none of its groups
-abbrev pub moment_of_a_story : Global → Record → ℕ → ℕ → Moment
-moment_of_a_story memory entry filled ended = record {
+abbrev pub moment_of_a_story : Global → ℕ → Record → ℕ → Phase → ℕ → Moment
+moment_of_a_story memory number entry filled phase ended = record {
+  number = number;
   entry = entry;
-  queues = vector memory (level filled 3 4 ∷ []) (lit≤ tt);
+  phase = On;
+  queues = vector memory (record (level filled 3 4) { phase = Some phase } ∷ []) (lit≤ tt);
   groups = vector memory (level 0 0 0 ∷ level 0 0 0 ∷ level 0 0 0 ∷ []) (lit≤ tt);
   batch = Some 7;
+  desc = None;
   ended = ended;
 }
 
@@ -140,9 +206,11 @@ story memory = record {
   caps = caps_of_a_drawing;
   moments =
       vector memory
-      (moment_of_a_story memory (idle_step 0) 1 0
-      ∷ moment_of_a_story memory (stepped (event.Fetch 1 fill) (reply.Fetch (Fetched (record_ticket 4 0)))) 2 0
-      ∷ moment_of_a_story memory (stepped (event.Fetch 2 fill) (reply.Fetch (Fetched (record_ticket 5 1)))) 1 1 ∷ [])
+      (moment_of_a_story memory 0 (idle_step 0) 1 On 0
+      ∷ moment_of_a_story memory 1 (stepped (event.Fetch 1 fill) (reply.Fetch (Fetched (record_ticket 4 0)))) 2 On 0
+      ∷ moment_of_a_story memory 2
+      (stepped (event.Fetch 2 fill) (reply.Fetch (Fetched (record_ticket 5 1)))) 1 Stopping 1
+      ∷ [])
       (lit≤ tt);
   fates = vector memory (record { name = 0; parent = Some 7; fate = Completed 1 } ∷ []) (lit≤ tt);
 }
@@ -170,6 +238,8 @@ device_of_a_drawing =
       state = record {
         work = record work {
           setup = record work.setup {
+            device = On;
+            phases = Stopping ∷ [];
             configs = queue_of_a_run ∷ [];
             groups = group_of_a_run ∷ zero_group ∷ zero_group ∷ [];
           };
@@ -185,10 +255,13 @@ device_of_a_drawing =
 
 abbrev pub moment_of_a_device : Global → Moment
 moment_of_a_device memory = record {
+  number = 3;
   entry = idle_step 1;
-  queues = vector memory (level 1 8 16 ∷ []) (lit≤ tt);
+  phase = On;
+  queues = vector memory (record (level 1 8 16) { phase = Some Stopping } ∷ []) (lit≤ tt);
   groups = vector memory (level 0 0 32 ∷ level 0 0 0 ∷ level 0 0 0 ∷ []) (lit≤ tt);
   batch = Some 7;
+  desc = None;
   ended = 2;
 }
 

@@ -2,11 +2,12 @@
 
 ghost use Rattle.std.specs.Prelude.{◌≡◌, ◌++◌, ◌==◌, [], cond, IfOk, OnOk};
 ghost use Rattle.dsa_event_text.specs.Added.{Adds};
-ghost use Rattle.dsa_draw.specs.Bands.{level_in, value_of, raised, peaks_of, highest, reach_text, turn_text, turns, levels_of, path_text, class_text, close_text, line_text, lines_text, frame_text, name_text, band_range_text, peak_text, band_text, band_part_text, next_top, bands_text, bands_end, bands_of, bands_of_kind};
+ghost use Rattle.dsa_draw.specs.Bands.{level_in, line_value, raised, peaks_of, highest, reach_text, turn_text, turns, levels_of, path_text, class_text, close_text, line_text, lines_text, frame_text, name_text, name_of_kind, band_range_text, peak_text, band_phases_text, band_text, band_part_text, next_top, bands_text, bands_end, bands_of, bands_of_kind};
 
 use crate::geometry::{column_left, level_high};
 use crate::moment::{BandKind, Level, Moment, band_count};
-use crate::page::add_numbered;
+use crate::page::{add_again, add_numbered};
+use crate::phases::{Holder, add_phases};
 use dsa_event_text::Added;
 use dsa_regs::Caps;
 use std::alloc::{AllocError, Global};
@@ -31,6 +32,7 @@ const NOTHING: Level = Level {
     filled: 0,
     mark: 0,
     limit: 0,
+    phase: None,
 };
 
 /// Where a band stands: its lower end, and the level at its upper one.
@@ -60,6 +62,7 @@ fn raised(most: Level, level: Level) -> Level
         filled: most.filled.max(level.filled),
         mark: most.mark.max(level.mark),
         limit: most.limit.max(level.limit),
+        phase: None,
     }
 }
 
@@ -82,7 +85,7 @@ fn highest(peaks: Level) -> u16
 
 impl Line {
     fn value_of(self, level: Level) -> u16
-        ensures { result ≡ value_of self level }
+        ensures { result ≡ line_value self level }
     {
         match self {
             Line::Filled => level.filled,
@@ -194,14 +197,20 @@ fn add_frame(text: &mut String, steps: u32, top: u32) -> Added
     )
 }
 
+fn name_of(kind: BandKind) -> &'static str
+    ensures { result.now ≡ name_of_kind kind }
+{
+    match kind {
+        BandKind::Queue => "queue",
+        BandKind::Group => "buffers",
+    }
+}
+
 #[tactic(auto, unfolding(crate::specs::Bands::name_text))]
 fn add_band_name(text: &mut String, band: Band, top: u32) -> Added
     ensures { Adds result text.old text.new (name_text band top) }
 {
-    match band.kind {
-        BandKind::Queue => add_numbered(text, "queue", band.number, top),
-        BandKind::Group => add_numbered(text, "buffers", band.number, top),
-    }
+    add_numbered(text, name_of(band.kind), band.number, top)
 }
 
 #[tactic(auto, unfolding(crate::specs::Bands::band_range_text))]
@@ -229,6 +238,19 @@ fn add_lines(text: &mut String, moments: &[Moment], band: Band, scale: Scale) ->
     add_line(text, moments, band, Line::Limit, scale)
 }
 
+// The phases of a queue are above its frame. A group has none.
+fn add_band_phases(text: &mut String, moments: &[Moment], band: Band, bottom: u32) -> Added
+    ensures { Adds result text.old text.new (band_phases_text bottom band moments.now) }
+{
+    match band.kind {
+        BandKind::Queue => {
+            let y = bottom.saturating_sub(50);
+            add_phases(text, moments, Holder::Queue(band.number), y)
+        }
+        BandKind::Group => Ok(()),
+    }
+}
+
 // Draws the band that begins at `top` and has these peaks.
 #[tactic(auto, unfolding(crate::specs::Bands::band_text))]
 fn draw_band(
@@ -249,7 +271,9 @@ fn draw_band(
     add_lines(text, moments, band, scale)?;
     add_band_name(text, band, top)?;
     add_range(text, scale.most, top)?;
-    add_peak(text, peaks.filled, top)
+    add_peak(text, peaks.filled, top)?;
+    add_band_phases(text, moments, band, scale.bottom)?;
+    add_again(text, name_of(band.kind), Some(band.number), steps, top)
 }
 
 // Draws the band, where there is anything to draw, and says where the next one begins.

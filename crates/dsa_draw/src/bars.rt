@@ -2,13 +2,13 @@
 
 ghost use Rattle.std.specs.Prelude.{◌≡◌, [], ◌∷◌, ◌++◌, cond, nat_lt, set, length, IfOk, OnOk};
 ghost use Rattle.dsa_draw.specs.Rows.{rows_between};
-ghost use Rattle.dsa_draw.specs.Bars.{noted_in, with_name, with_bar, with_change, changed_at, place_of, started_at, ended_at, with_ends, is_batch_named, begun_bar, taken_bar, fetched_bar, engine_of_actor, noted_submit, noted_dispatch, noted_fetch, noted_start, noted_reply, noted_record, noted_moment, bars_of, end_step, is_kind, is_bar_of, free_place, lane_number, in_lane, lanes_after, in_lanes, all_lanes, lane_count};
-ghost use Rattle.dsa_book.specs.Totals.{actor_of};
+ghost use Rattle.dsa_draw.specs.Bars.{noted_in, with_name, with_bar, with_change, changed_at, place_of, submitter_in, started_at, ended_at, with_ends, is_batch_named, begun_bar, taken_bar, fetched_bar, engine_of_actor, client_of_actor, arrival_of, noted_submit, noted_dispatch, noted_fetch, noted_start, noted_reply, noted_entry, noted_moment, bars_of, end_step, is_kind, is_bar_of, free_place, lane_number, in_lane, lanes_after, in_lanes, all_lanes, lane_count};
 
 use crate::moment::Moment;
 use dsa_book::{
-    Actor, DispatchAnswer, Fate, FateRow, FetchAnswer, Reply, StartAnswer, Step, SubmitAnswer,
+    Actor, DispatchAnswer, Fate, FateRow, FetchAnswer, Reply, StartAnswer, SubmitAnswer,
 };
+use dsa_desc::Descriptor;
 use dsa_scenario::Record;
 use std::alloc::{AllocError, Global};
 
@@ -24,6 +24,9 @@ pub struct End {
 pub struct Bar {
     pub name: u32,
     pub engine: u16,
+    pub desc: Option<Descriptor>,
+    /// Who submitted it.
+    pub client: Option<u16>,
     /// The batch whose member it is.
     pub parent: Option<u32>,
     /// Whether it is the batch that its engine works on.
@@ -37,19 +40,23 @@ pub struct Bar {
     pub lane: u32,
 }
 
-/// What brings an entry to an engine: this step, while the engine works on this batch.
+/// What brings an entry of this descriptor to an engine: this step, while the engine works on this
+/// batch.
 #[derive(Clone, Copy)]
 struct Arrival {
     engine: u16,
     step: u32,
     batch: Option<u32>,
+    desc: Option<Descriptor>,
 }
 
-/// The bars in the order in which they begin, and for each name the place of its bar.
+/// The bars in the order in which they begin, and for each name the place of its bar and who
+/// submitted it.
 #[derive(Drop)]
 struct Table {
     bars: Vec<Bar>,
     places: Vec<Option<usize>>,
+    clients: Vec<Option<u16>>,
 }
 
 impl Table {
@@ -59,11 +66,18 @@ impl Table {
         self.places.get(name as usize).copied()?
     }
 
-    // An entry that waits in its queue has a name, and no bar yet.
-    fn name(&mut self, place: Option<usize>) -> Result<(), AllocError>
-        ensures { OnOk result (noted_in self.new ≡ with_name place (noted_in self.old)) }
+    fn client_of(&self, name: u32) -> Option<u16>
+        ensures { result ≡ submitter_in name self.now.clients.items }
     {
-        self.places.push(place)?;
+        self.clients.get(name as usize).copied()?
+    }
+
+    // An entry that waits in its queue has a name, and no bar yet.
+    fn name(&mut self, client: Option<u16>) -> Result<(), AllocError>
+        ensures { OnOk result (noted_in self.new ≡ with_name client (noted_in self.old)) }
+    {
+        self.places.push(None)?;
+        self.clients.push(client)?;
         Ok(())
     }
 
@@ -83,6 +97,7 @@ impl Table {
         ensures bars { self.new.bars.items
             ≡ changed_at (started_at step) place self.old.bars.items }
         ensures places { self.new.places ≡ self.old.places }
+        ensures clients { self.new.clients ≡ self.old.clients }
     {
         if place < self.bars.len() {
             self.bars[place].started = Some(step);
@@ -102,6 +117,7 @@ impl Table {
         ensures bars { self.new.bars.items
             ≡ changed_at (ended_at step row.now) place self.old.bars.items }
         ensures places { self.new.places ≡ self.old.places }
+        ensures clients { self.new.clients ≡ self.old.clients }
     {
         if place < self.bars.len() {
             self.bars[place].end = Some(End {
@@ -129,28 +145,31 @@ impl Table {
         }
     }
 
-    fn note_submit(&mut self, answer: SubmitAnswer) -> Result<(), AllocError>
-        ensures { OnOk result (noted_in self.new ≡ noted_submit answer (noted_in self.old)) }
+    fn note_submit(&mut self, answer: SubmitAnswer, actor: Actor) -> Result<(), AllocError>
+        ensures { OnOk result (noted_in self.new ≡ noted_submit actor answer (noted_in self.old)) }
     {
         match answer {
-            SubmitAnswer::Accepted(_) => self.name(None),
+            SubmitAnswer::Accepted(_) => self.name(client_of_actor(actor)),
             _ => Ok(()),
         }
     }
 
     fn note_dispatch(&mut self, answer: DispatchAnswer, arrival: Arrival) -> Result<(), AllocError>
         ensures { OnOk result (noted_in self.new
-            ≡ noted_dispatch arrival.step arrival.engine arrival.batch answer (noted_in self.old)) }
+            ≡ noted_dispatch arrival answer (noted_in self.old)) }
     {
         match answer {
-            DispatchAnswer::Taken { ticket, .. } => self.take(taken_bar(ticket.name, arrival)),
+            DispatchAnswer::Taken { ticket, .. } => {
+                let client = self.client_of(ticket.name);
+                self.take(taken_bar(ticket.name, client, arrival))
+            }
             _ => Ok(()),
         }
     }
 
     fn note_fetch(&mut self, answer: FetchAnswer, arrival: Arrival) -> Result<(), AllocError>
         ensures { OnOk result (noted_in self.new
-            ≡ noted_fetch arrival.step arrival.engine arrival.batch answer (noted_in self.old)) }
+            ≡ noted_fetch arrival answer (noted_in self.old)) }
     {
         match answer {
             FetchAnswer::Fetched(ticket) => {
@@ -170,40 +189,32 @@ impl Table {
         }
     }
 
-    // What the step brought to its engine.
-    fn note_step(&mut self, made: &Step, step: u32, batch: Option<u32>) -> Result<(), AllocError>
-        ensures { OnOk result (noted_in self.new
-            ≡ noted_reply step (engine_of_actor (actor_of made.now.event)) batch made.now.reply
-            (noted_in self.old)) }
+    // What the step of this actor brought to its engine.
+    fn note_reply(&mut self, actor: Actor, arrival: Arrival, reply: Reply) -> Result<(), AllocError>
+        ensures { OnOk result
+            (noted_in self.new ≡ noted_reply actor arrival reply (noted_in self.old)) }
     {
-        let arrival = Arrival {
-            engine: engine_of(made),
-            step,
-            batch,
-        };
-        match made.reply {
-            Reply::Submit(answer) => self.note_submit(answer),
+        match reply {
+            Reply::Submit(answer) => self.note_submit(answer, actor),
             Reply::Dispatch(answer) => self.note_dispatch(answer, arrival),
             Reply::Fetch(answer) => self.note_fetch(answer, arrival),
             Reply::Start(answer) => {
-                self.note_start(answer, step);
+                self.note_start(answer, arrival.step);
                 Ok(())
             }
             _ => Ok(()),
         }
     }
 
-    fn note_record(
-        &mut self,
-        entry: &Record,
-        step: u32,
-        batch: Option<u32>,
-    ) -> Result<(), AllocError>
+    fn note_entry(&mut self, moment: &Moment, step: u32) -> Result<(), AllocError>
         ensures { OnOk result
-            (noted_in self.new ≡ noted_record step batch entry.now (noted_in self.old)) }
+            (noted_in self.new ≡ noted_entry step moment.now (noted_in self.old)) }
     {
-        match entry {
-            Record::Stepped(made) => self.note_step(made, step, batch),
+        match &moment.entry {
+            Record::Stepped(made) => {
+                let actor = made.event.actor();
+                self.note_reply(actor, arrival_of(actor, moment, step), made.reply)
+            }
             Record::Refused(_) => Ok(()),
         }
     }
@@ -219,19 +230,39 @@ impl Table {
         ensures { OnOk result (noted_in self.new
             ≡ noted_moment fates.now step ended moment.now (noted_in self.old)) }
     {
-        self.note_record(&moment.entry, step, moment.batch)?;
+        self.note_entry(moment, step)?;
         self.end_all(rows_between(fates, ended, moment.ended), step);
         Ok(())
     }
 }
 
 // The engine whose step it was; 0 where it was of none.
-fn engine_of(made: &Step) -> u16
-    ensures { result ≡ engine_of_actor (actor_of made.now.event) }
+fn engine_of_actor(actor: Actor) -> u16
+    ensures { result ≡ engine_of_actor actor }
 {
-    match made.event.actor() {
+    match actor {
         Actor::Engine(engine) => engine,
         _ => 0,
+    }
+}
+
+fn client_of_actor(actor: Actor) -> Option<u16>
+    ensures { result ≡ client_of_actor actor }
+{
+    match actor {
+        Actor::Client(client) => Some(client),
+        _ => None,
+    }
+}
+
+fn arrival_of(actor: Actor, moment: &Moment, step: u32) -> Arrival
+    ensures { result ≡ arrival_of step actor moment.now }
+{
+    Arrival {
+        engine: engine_of_actor(actor),
+        step,
+        batch: moment.batch,
+        desc: moment.desc,
     }
 }
 
@@ -246,11 +277,13 @@ fn is_batch_named(batch: Option<u32>, name: u32) -> bool
 
 // What comes to an engine, before more is known of it.
 fn begun_bar(name: u32, arrival: Arrival) -> Bar
-    ensures { result ≡ begun_bar name arrival.engine arrival.step }
+    ensures { result ≡ begun_bar name arrival }
 {
     Bar {
         name,
         engine: arrival.engine,
+        desc: arrival.desc,
+        client: None,
         parent: None,
         is_batch: false,
         begin: arrival.step,
@@ -260,10 +293,11 @@ fn begun_bar(name: u32, arrival: Arrival) -> Bar
     }
 }
 
-fn taken_bar(name: u32, arrival: Arrival) -> Bar
-    ensures { result ≡ taken_bar name arrival.engine arrival.step arrival.batch }
+fn taken_bar(name: u32, client: Option<u16>, arrival: Arrival) -> Bar
+    ensures { result ≡ taken_bar name client arrival }
 {
     Bar {
+        client,
         is_batch: is_batch_named(arrival.batch, name),
         started: Some(arrival.step),
         ..begun_bar(name, arrival)
@@ -271,7 +305,7 @@ fn taken_bar(name: u32, arrival: Arrival) -> Bar
 }
 
 fn fetched_bar(name: u32, arrival: Arrival) -> Bar
-    ensures { result ≡ fetched_bar name arrival.engine arrival.step arrival.batch }
+    ensures { result ≡ fetched_bar name arrival }
 {
     Bar {
         parent: arrival.batch,
@@ -295,6 +329,7 @@ pub fn bars_of(alloc: Global, moments: &[Moment], fates: &[FateRow]) -> Result<V
     let mut table = Table {
         bars: Vec::new(alloc),
         places: Vec::new(alloc),
+        clients: Vec::new(alloc),
     };
     let mut step = 0u32;
     let mut ended = 0;
@@ -358,7 +393,8 @@ fn take_place(lanes: &mut Vec<u32>, place: usize, end: u32) -> Result<(), AllocE
     Ok(())
 }
 
-fn lane_number(place: usize) -> u32
+/// The number of what has this place.
+pub fn lane_number(place: usize) -> u32
     ensures { result ≡ lane_number place }
 {
     u32::try_from(place).unwrap_or(u32::MAX)

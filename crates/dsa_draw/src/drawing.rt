@@ -4,10 +4,12 @@ ghost use Rattle.std.specs.Prelude.{◌≡◌, ◌++◌, ◌==◌, cond, nat_lt,
 ghost use Rattle.std.specs.List.{range_with_len};
 ghost use Rattle.dsa_event_text.specs.Added.{Adds};
 ghost use Rattle.dsa_draw.specs.Columns.{asked_text, title_text, column_text, grid_text, label_text, step_number_text, fifth_text, columns_text};
-ghost use Rattle.dsa_draw.specs.Rows.{command_place_text, command_name_text, event_name_text, label_above_text, asker_of, asker_text, fate_mark, ended_head_text, ended_title_text, ended_text, fates_text, marks_of_step_text, marks_above_text, names_above_text, rows_above_text};
+ghost use Rattle.dsa_draw.specs.Rows.{command_place_text, command_name_text, event_name_text, label_above_text, asker_of, asker_text, fate_mark, ended_head_text, ended_title_text, ended_text, fates_text, marks_of_step_text, marks_above_text, names_above_text, names_again_text, steps_above_text, rows_above_text};
 ghost use Rattle.dsa_draw.specs.{Engines.{engines_text, engines_end}, Pages.{small_number_text}};
-ghost use Rattle.dsa_draw.specs.Drawings.{step_count, IsTextOf};
+ghost use Rattle.dsa_draw.specs.Active.{waits_from, waits_text};
+ghost use Rattle.dsa_draw.specs.Drawings.{step_count, extent_of, IsTextOf};
 
+use crate::active::{add_waits, waits_of};
 use crate::bands::{add_bands, bands_of};
 use crate::bars::{Bar, bars_of, rows_between};
 use crate::engines::add_engine;
@@ -15,11 +17,14 @@ use crate::geometry::column_left;
 use crate::marks::{Mark, mark_of};
 use crate::moment::Moment;
 use crate::page::{
-    add_foot, add_head, add_legend, add_mark, add_name, add_rect, add_rule, add_small_number,
+    add_again, add_foot, add_head, add_legend, add_mark, add_name, add_rect, add_rule,
+    add_small_number,
 };
+use crate::phases::{Holder, add_phases};
+use crate::range::{Extent, StepRange, ended_before, moments_in};
 use crate::run::Story;
 use dsa_book::{Actor, Event, Fate, FateRow};
-use dsa_event_text::{Added, add_command, add_event};
+use dsa_event_text::{Added, add_bad_word, add_command, add_event};
 use dsa_regs::Command;
 use dsa_scenario::{Record, add_answer, add_rows};
 use std::alloc::{AllocError, Global};
@@ -32,9 +37,10 @@ const CLIENTS: u32 = 96;
 
 const ADMINISTRATOR: u32 = 112;
 
-const FATES: u32 = 128;
+const FATES: u32 = 160;
 
-const BANDS: u32 = 152;
+// The first frame, below the line of a queue's phase.
+const BANDS: u32 = 190;
 
 // ---- columns
 
@@ -43,7 +49,7 @@ fn add_asked(text: &mut String, entry: &Record) -> Added
 {
     match entry {
         Record::Stepped(step) => add_event(text, &step.event),
-        Record::Refused(_) => text.push_str("command"),
+        Record::Refused(refused) => add_bad_word(text, refused.word),
     }
 }
 
@@ -59,20 +65,20 @@ fn add_title(text: &mut String, entry: &Record, step: u32) -> Added
 }
 
 // A column has the step as its title.
-fn add_column(text: &mut String, entry: &Record, step: u32, height: u32) -> Added
-    ensures { Adds result text.old text.new (column_text height step entry.now) }
+fn add_column(text: &mut String, moment: &Moment, column: u32, height: u32) -> Added
+    ensures { Adds result text.old text.new (column_text height column moment.now) }
 {
     let high = height.saturating_sub(NUMBERS);
     add_rect(
         text,
         "column",
-        step,
+        column,
         u64::from(NUMBERS),
         14,
         u64::from(high),
     )?;
     text.push_str("><title>")?;
-    add_title(text, entry, step)?;
+    add_title(text, &moment.entry, moment.number)?;
     write!(text, "</title></rect>\n")
 }
 
@@ -86,27 +92,27 @@ fn add_grid(text: &mut String, step: u32, height: u32) -> Added
 }
 
 #[tactic(auto, unfolding(crate::specs::Columns::label_text))]
-fn add_step_label(text: &mut String, step: u32) -> Added
-    ensures { Adds result text.old text.new (label_text step) }
+fn add_step_label(text: &mut String, step: u32, column: u32) -> Added
+    ensures { Adds result text.old text.new (label_text column step) }
 {
-    let x = column_left(step) + 2;
+    let x = column_left(column) + 2;
     write!(text, "<text x=\"{x}\" y=\"91\">{step}</text>\n")
 }
 
 // A line, and the number of the step.
-fn add_number(text: &mut String, step: u32, height: u32) -> Added
-    ensures { Adds result text.old text.new (step_number_text height step) }
+fn add_number(text: &mut String, step: u32, column: u32, height: u32) -> Added
+    ensures { Adds result text.old text.new (step_number_text height column step) }
 {
-    add_grid(text, step, height)?;
-    add_step_label(text, step)
+    add_grid(text, column, height)?;
+    add_step_label(text, step, column)
 }
 
 // That of every fifth step.
-fn add_fifth(text: &mut String, step: u32, height: u32) -> Added
-    ensures { Adds result text.old text.new (fifth_text height step) }
+fn add_fifth(text: &mut String, step: u32, column: u32, height: u32) -> Added
+    ensures { Adds result text.old text.new (fifth_text height column step) }
 {
     if step % 5 == 0 {
-        add_number(text, step, height)
+        add_number(text, step, column, height)
     } else {
         Ok(())
     }
@@ -115,11 +121,11 @@ fn add_fifth(text: &mut String, step: u32, height: u32) -> Added
 fn add_columns(text: &mut String, moments: &[Moment], height: u32) -> Added
     ensures { Adds result text.old text.new (columns_text height 0 moments.now) }
 {
-    let mut step = 0u32;
+    let mut column = 0u32;
     for moment in moments {
-        add_fifth(text, step, height)?;
-        add_column(text, &moment.entry, step, height)?;
-        step = step.saturating_add(1);
+        add_fifth(text, moment.number, column, height)?;
+        add_column(text, moment, column, height)?;
+        column = column.saturating_add(1);
     }
     Ok(())
 }
@@ -217,32 +223,32 @@ fn add_ended_title(text: &mut String, rows: &[FateRow], step: u32) -> Added
 
 fn add_ended_many(text: &mut String, step: u32, count: usize) -> Added
     ensures { Adds result text.old text.new
-        (cond (nat_lt 1 count) (small_number_text step 151 count) []) }
+        (cond (nat_lt 1 count) (small_number_text step 183 count) []) }
 {
     if count > 1 {
-        add_small_number(text, step, 151, count as u64)
+        add_small_number(text, step, 183, count as u64)
     } else {
         Ok(())
     }
 }
 
-fn add_ended(text: &mut String, rows: &[FateRow], mark: Mark, step: u32) -> Added
-    ensures { Adds result text.old text.new (ended_text step rows.now mark) }
+fn add_ended(text: &mut String, rows: &[FateRow], mark: Mark, step: u32, column: u32) -> Added
+    ensures { Adds result text.old text.new (ended_text column step rows.now mark) }
 {
     add_ended_title(text, rows, step)?;
-    add_rect(text, "column", step, u64::from(FATES), 14, 16)?;
+    add_rect(text, "column", column, u64::from(FATES), 14, 16)?;
     text.push_str("/>")?;
-    add_ended_many(text, step, rows.len())?;
-    add_mark(text, mark, step, FATES)?;
+    add_ended_many(text, column, rows.len())?;
+    add_mark(text, mark, column, FATES)?;
     text.push_str("</g>\n")
 }
 
 // A mark for the last entry that ended in this step, and how many did where it was not alone.
-fn add_fates(text: &mut String, rows: &[FateRow], step: u32) -> Added
-    ensures { Adds result text.old text.new (fates_text step rows.now) }
+fn add_fates(text: &mut String, rows: &[FateRow], step: u32, column: u32) -> Added
+    ensures { Adds result text.old text.new (fates_text column step rows.now) }
 {
     match rows.last() {
-        Some(row) => add_ended(text, rows, fate_mark(row.fate), step),
+        Some(row) => add_ended(text, rows, fate_mark(row.fate), step, column),
         None => Ok(()),
     }
 }
@@ -252,28 +258,34 @@ fn add_marks_of_step(
     text: &mut String,
     fates: &[FateRow],
     moment: &Moment,
-    step: u32,
+    column: u32,
     ended: usize,
 ) -> Added
-    ensures { Adds result text.old text.new (marks_of_step_text fates.now step ended moment.now) }
+    ensures { Adds result text.old text.new (marks_of_step_text fates.now column ended moment.now) }
 {
-    add_label(text, &moment.entry, step)?;
-    add_asker(text, &moment.entry, step)?;
-    add_fates(text, rows_between(fates, ended, moment.ended), step)
+    add_label(text, &moment.entry, column)?;
+    add_asker(text, &moment.entry, column)?;
+    let rows = rows_between(fates, ended, moment.ended);
+    add_fates(text, rows, moment.number, column)
 }
 
-fn add_marks(text: &mut String, fates: &[FateRow], moments: &[Moment]) -> Added
-    ensures { Adds result text.old text.new (marks_above_text fates.now 0 0 moments.now) }
+fn add_marks(text: &mut String, fates: &[FateRow], moments: &[Moment], before: usize) -> Added
+    ensures { Adds result text.old text.new (marks_above_text fates.now 0 before moments.now) }
 {
-    let mut step = 0u32;
-    let mut ended = 0;
+    let mut column = 0u32;
+    let mut ended = before;
     for moment in moments {
-        add_marks_of_step(text, fates, moment, step, ended)?;
+        add_marks_of_step(text, fates, moment, column, ended)?;
         ended = moment.ended;
-        step = step.saturating_add(1);
+        column = column.saturating_add(1);
     }
     Ok(())
 }
+
+// The phase of the device.
+const DEVICE: u32 = 128;
+
+const ACTIVE: u32 = 144;
 
 #[tactic(auto, unfolding(crate::specs::Rows::names_above_text))]
 fn add_names_above(text: &mut String, steps: u32) -> Added
@@ -282,17 +294,60 @@ fn add_names_above(text: &mut String, steps: u32) -> Added
     add_name(text, "step", NUMBERS)?;
     add_name(text, "clients", CLIENTS)?;
     add_name(text, "administrator", ADMINISTRATOR)?;
+    add_name(text, "device", DEVICE)?;
+    add_name(text, "active", ACTIVE)?;
     add_name(text, "fates", FATES)?;
     add_rule(text, steps, CLIENTS)?;
     add_rule(text, steps, ADMINISTRATOR)?;
+    add_rule(text, steps, DEVICE)?;
+    add_rule(text, steps, ACTIVE)?;
     add_rule(text, steps, FATES)
 }
 
-fn add_rows_above(text: &mut String, fates: &[FateRow], moments: &[Moment], steps: u32) -> Added
-    ensures { Adds result text.old text.new (rows_above_text steps fates.now moments.now) }
+fn add_names_again(text: &mut String, steps: u32) -> Added
+    ensures { Adds result text.old text.new (names_again_text steps) }
 {
-    add_names_above(text, steps)?;
-    add_marks(text, fates, moments)
+    add_again(text, "clients", None, steps, CLIENTS)?;
+    add_again(text, "administrator", None, steps, ADMINISTRATOR)?;
+    add_again(text, "device", None, steps, DEVICE)?;
+    add_again(text, "active", None, steps, ACTIVE)?;
+    add_again(text, "fates", None, steps, FATES)
+}
+
+fn add_active(alloc: Global, text: &mut String, moments: &[Moment], extent: Extent) -> Added
+    ensures { Adds result text.old text.new (waits_text extent (waits_from 0 moments.now)) }
+{
+    let waits = waits_of(alloc, moments)?;
+    add_waits(alloc, text, &waits, extent)
+}
+
+// What the steps that are drawn have there.
+fn add_steps_above(
+    text: &mut String,
+    fates: &[FateRow],
+    moments: &[Moment],
+    range: StepRange,
+) -> Added
+    ensures { Adds result text.old text.new (steps_above_text range fates.now moments.now) }
+{
+    let shown = moments_in(moments, range);
+    add_marks(text, fates, shown, ended_before(moments, range))?;
+    add_phases(text, shown, Holder::Device, DEVICE + 13)
+}
+
+fn add_rows_above(
+    alloc: Global,
+    text: &mut String,
+    fates: &[FateRow],
+    moments: &[Moment],
+    extent: Extent,
+) -> Added
+    ensures { Adds result text.old text.new (rows_above_text extent fates.now moments.now) }
+{
+    add_names_above(text, extent.columns())?;
+    add_steps_above(text, fates, moments, extent.range)?;
+    add_active(alloc, text, moments, extent)?;
+    add_names_again(text, extent.columns())
 }
 
 // ---- bands and engines
@@ -303,17 +358,17 @@ fn add_engines(
     moments: &[Moment],
     bars: &[Bar],
     engines: u16,
-    steps: u32,
+    extent: Extent,
     top: u32,
 ) -> Result<u32, AllocError>
     ensures text { Adds result text.old text.new
-        (engines_text steps top (range_with_len 0 engines) moments.now bars.now) }
+        (engines_text extent top (range_with_len 0 engines) moments.now bars.now) }
     ensures end { IfOk result
-        (λ end. end ≡ engines_end steps top (range_with_len 0 engines) moments.now bars.now) }
+        (λ end. end ≡ engines_end extent top (range_with_len 0 engines) moments.now bars.now) }
 {
     let mut top = top;
     for engine in 0..engines {
-        top = add_engine(alloc, text, moments, bars, engine, steps, top)?;
+        top = add_engine(alloc, text, moments, bars, engine, extent, top)?;
     }
     Ok(top)
 }
@@ -333,27 +388,39 @@ fn add_parts(text: &mut String, above: &str, bands: &str, below: &str) -> Added
     text.push_str(below)
 }
 
+// What is drawn of these moments.
+fn extent_of(moments: &[Moment], range: StepRange) -> Extent
+    ensures { result ≡ extent_of range moments.now }
+{
+    let last = count_of(moments);
+    Extent {
+        range: range.within(last),
+        last,
+    }
+}
+
 /// The drawing of a story.
-pub fn draw(alloc: Global, story: &Story) -> Result<String, AllocError>
-    ensures { IfOk result (λ text. IsTextOf story.now (string_bytes text)) }
+pub fn draw(alloc: Global, story: &Story, steps: StepRange) -> Result<String, AllocError>
+    ensures { IfOk result (λ text. IsTextOf steps story.now (string_bytes text)) }
 {
     let moments = story.moments.as_slice();
     let fates = story.fates.as_slice();
-    let steps = count_of(moments);
+    let extent = extent_of(moments, steps);
+    let shown = moments_in(moments, extent.range);
     let mut above = String::new(alloc);
-    add_rows_above(&mut above, fates, moments, steps)?;
+    add_rows_above(alloc, &mut above, fates, moments, extent)?;
     let list = bands_of(alloc, &story.caps)?;
     let mut bands = String::new(alloc);
-    let top = add_bands(&mut bands, moments, steps, &list, BANDS)?;
+    let top = add_bands(&mut bands, shown, extent.columns(), &list, BANDS)?;
     let bars = bars_of(alloc, moments, fates)?;
     let mut below = String::new(alloc);
     let engines = story.caps.engines;
-    let height = add_engines(alloc, &mut below, moments, &bars, engines, steps, top)?;
+    let height = add_engines(alloc, &mut below, moments, &bars, engines, extent, top)?;
     add_legend(&mut below, height)?;
     add_foot(&mut below)?;
     let mut text = String::new(alloc);
-    add_head(&mut text, steps, height)?;
-    add_columns(&mut text, moments, height)?;
+    add_head(&mut text, extent, height)?;
+    add_columns(&mut text, shown, height)?;
     add_parts(&mut text, above.as_str(), bands.as_str(), below.as_str())?;
     Ok(text)
 }

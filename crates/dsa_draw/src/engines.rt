@@ -5,15 +5,18 @@ ghost use Rattle.std.specs.Fmt.{digit_glyph};
 ghost use Rattle.dsa_event_text.specs.Added.{Adds};
 ghost use Rattle.dsa_scenario.specs.Lines.{two_digits};
 ghost use Rattle.dsa_draw.specs.Bars.{end_step};
-ghost use Rattle.dsa_draw.specs.Engines.{is_step_by, has_steps, engine_mark_text, engine_marks_text, class_of_fate, class_of_end, sign_of_fate, sign_of, strokes_text, sign_text, end_sign_text, bar_room, fate_phrase, kind_phrase, holder_phrase, parent_phrase, begin_phrase, end_phrase, bar_title_text, box_text, box_part_text, name_room, bar_name_text, lane_by, bar_top, boxes_text, bar_text, bars_text, lanes_bottom, batch_title_text, batch_text, batches_text, taken_in_lanes, bars_in_lanes, lanes_of, engine_bottom, engine_rows_text, engine_part_text, engine_end};
+ghost use Rattle.dsa_draw.specs.Engines.{is_step_by, has_steps, engine_mark_text, engine_marks_text, class_of_fate, class_of_end, strokes_text, sign_text, end_sign_text, fate_phrase, kind_phrase, work_phrase, client_phrase, parent_phrase, end_phrase, entry_phrase, steps_phrase, bar_title_text, box_part_text, lane_by, bar_top, boxes_text, is_shown, bar_text, bars_text, lanes_bottom, batch_title_text, batch_text, batches_text, taken_in_lanes, bars_in_lanes, lanes_of, engine_bottom, engine_name_text, engine_rows_text, engine_part_text, engine_end};
 
 use crate::bars::{Bar, End, lay_bars};
 use crate::geometry::{column_left, columns_wide, lane_top};
+use crate::labels::{Sign, add_label, sign_of};
 use crate::marks::mark_of;
 use crate::moment::Moment;
-use crate::page::{add_mark, add_numbered, add_rect, add_rule, add_small_number};
+use crate::page::{add_again, add_box, add_mark, add_numbered, add_rect, add_rule};
+use crate::range::{Extent, moments_in};
 use dsa_book::{Actor, Fate};
-use dsa_event_text::Added;
+use dsa_desc::Descriptor;
+use dsa_event_text::{Added, add_descriptor, add_number};
 use dsa_scenario::Record;
 use std::alloc::{AllocError, Global};
 use std::fmt::Write;
@@ -24,16 +27,7 @@ struct Lanes {
     top: u32,
     taken: u32,
     members: u32,
-    last: u32,
-}
-
-/// What stands at the end of a bar, beside its colour.
-#[derive(Clone, Copy)]
-enum Sign {
-    /// The entry was not successful.
-    Cross,
-    /// It was aborted or abandoned.
-    Slash,
+    extent: Extent,
 }
 
 fn is_of(entry: &Record, engine: u16) -> bool
@@ -97,31 +91,6 @@ fn class_of(end: Option<End>) -> &'static str
     }
 }
 
-fn sign_of_status(status: u8) -> Option<Sign>
-    ensures { result ≡ cond (status == 1) None (Some Sign.Cross) }
-{
-    if status == 0x01 {
-        None
-    } else {
-        Some(Sign::Cross)
-    }
-}
-
-fn sign_of_fate(fate: Fate) -> Option<Sign>
-    ensures { result ≡ sign_of_fate fate }
-{
-    match fate {
-        Fate::Completed(status) => sign_of_status(status),
-        _ => Some(Sign::Slash),
-    }
-}
-
-fn sign_of(end: Option<End>) -> Option<Sign>
-    ensures { result ≡ sign_of end }
-{
-    sign_of_fate(end?.fate)
-}
-
 fn hex_digit(n: u8) -> char
     requires { n < 16 }
     ensures { result ≡ digit_glyph false n }
@@ -158,14 +127,28 @@ fn add_fate(text: &mut String, fate: Fate) -> Added
 fn kind_of(is_batch: bool) -> &'static str
     ensures { result.now ≡ kind_phrase is_batch }
 {
-    if is_batch { "batch" } else { "entry" }
+    if is_batch { "batch " } else { "entry " }
 }
 
-#[tactic(auto, unfolding(crate::specs::Engines::holder_phrase))]
-fn add_holder(text: &mut String, name: u32, engine: u16) -> Added
-    ensures { Adds result text.old text.new (holder_phrase name engine) }
+// What the entry asks for.
+fn add_work(text: &mut String, desc: Option<Descriptor>) -> Added
+    ensures { Adds result text.old text.new (work_phrase desc) }
 {
-    write!(text, " {name} on e{engine}")
+    let Some(desc) = desc else {
+        return Ok(());
+    };
+    text.push_str(": ")?;
+    add_descriptor(text, &desc)?;
+    add_number(text, ", PASID ", desc.pasid)
+}
+
+fn add_client(text: &mut String, client: Option<u16>) -> Added
+    ensures { Adds result text.old text.new (client_phrase client) }
+{
+    match client {
+        Some(client) => add_number(text, ", client ", u32::from(client)),
+        None => Ok(()),
+    }
 }
 
 fn add_parent(text: &mut String, parent: Option<u32>) -> Added
@@ -175,13 +158,6 @@ fn add_parent(text: &mut String, parent: Option<u32>) -> Added
         Some(parent) => write!(text, ", member of batch {parent}"),
         None => Ok(()),
     }
-}
-
-#[tactic(auto, unfolding(crate::specs::Engines::begin_phrase))]
-fn add_begin(text: &mut String, begin: u32) -> Added
-    ensures { Adds result text.old text.new (begin_phrase begin) }
-{
-    write!(text, ", from step {begin}")
 }
 
 fn add_end(text: &mut String, end: End) -> Added
@@ -201,25 +177,33 @@ fn add_end_part(text: &mut String, end: Option<End>) -> Added
     }
 }
 
-// What the bar is of, and how it ended.
+// What the bar is of.
+fn add_bar_entry(text: &mut String, bar: &Bar) -> Added
+    ensures { Adds result text.old text.new (entry_phrase bar.now) }
+{
+    add_number(text, kind_of(bar.is_batch), bar.name)?;
+    add_work(text, bar.desc)?;
+    add_client(text, bar.client)?;
+    add_parent(text, bar.parent)
+}
+
+// From where to where it goes, and how it ended.
+fn add_bar_steps(text: &mut String, bar: &Bar) -> Added
+    ensures { Adds result text.old text.new (steps_phrase bar.now) }
+{
+    add_number(text, ", on e", u32::from(bar.engine))?;
+    add_number(text, " from step ", bar.begin)?;
+    add_end_part(text, bar.end)
+}
+
 #[tactic(auto, unfolding(crate::specs::Engines::bar_title_text))]
 fn add_bar_title(text: &mut String, bar: &Bar) -> Added
     ensures { Adds result text.old text.new (bar_title_text bar.now) }
 {
     text.push_str("<title>")?;
-    text.push_str(kind_of(bar.is_batch))?;
-    add_holder(text, bar.name, bar.engine)?;
-    add_parent(text, bar.parent)?;
-    add_begin(text, bar.begin)?;
-    add_end_part(text, bar.end)?;
+    add_bar_entry(text, bar)?;
+    add_bar_steps(text, bar)?;
     text.push_str("</title>")
-}
-
-fn add_box(text: &mut String, class: &str, begin: u32, end: u32, y: u64) -> Added
-    ensures { Adds result text.old text.new (box_text class.now begin end y) }
-{
-    add_rect(text, class, begin, y, columns_wide(begin, end), 11)?;
-    text.push_str(" rx=\"2\"/>")
 }
 
 // A box has a column at least.
@@ -231,40 +215,6 @@ fn add_box_part(text: &mut String, class: &str, begin: u32, end: u32, y: u64) ->
     } else {
         Ok(())
     }
-}
-
-fn name_room(name: u64) -> u64
-    ensures { result ≡ name_room name }
-{
-    if name < 100 {
-        14
-    } else if name < 10_000 {
-        28
-    } else {
-        56
-    }
-}
-
-// A sign takes as much room as one digit more.
-fn bar_room(bar: &Bar) -> u64
-    ensures { result ≡ bar_room bar.now }
-{
-    let name = u64::from(bar.name);
-    if sign_of(bar.end).is_some() {
-        name_room(10 * name)
-    } else {
-        name_room(name)
-    }
-}
-
-// The name stands in a bar that is wide enough for it.
-fn add_bar_name(text: &mut String, bar: &Bar, end: u32, base: u64) -> Added
-    ensures { Adds result text.old text.new (bar_name_text bar.now end base) }
-{
-    if columns_wide(bar.begin, end) < bar_room(bar) {
-        return Ok(());
-    }
-    add_small_number(text, bar.begin, base, u64::from(bar.name))
 }
 
 impl Sign {
@@ -305,44 +255,53 @@ fn lane_of(bar: &Bar, lanes: Lanes) -> u32
     }
 }
 
-fn add_boxes(text: &mut String, bar: &Bar, runs: u32, end: u32, y: u64) -> Added
+fn add_boxes(alloc: Global, text: &mut String, bar: &Bar, extent: Extent, y: u64) -> Added
     requires { y < 2 ^ 40 }
-    ensures { Adds result text.old text.new (boxes_text bar.now runs end y) }
+    ensures { Adds result text.old text.new (boxes_text extent bar.now y) }
 {
-    add_box_part(text, "waits", bar.begin, runs, y)?;
+    let last = bar.end_step(extent.last);
+    let begin = extent.range.column_of(bar.begin);
+    let runs = extent.range.column_of(bar.started.unwrap_or(last));
+    let end = extent.range.column_of(last);
+    add_box_part(text, "waits", begin, runs, y)?;
     add_box_part(text, class_of(bar.end), runs, end, y)?;
-    add_bar_name(text, bar, end, y + 9)?;
+    add_label(alloc, text, bar, begin, end, y + 9)?;
     add_end_sign(text, sign_of(bar.end), end, y + 4)
 }
 
-fn add_bar(text: &mut String, bar: &Bar, lanes: Lanes) -> Added
+fn add_bar(alloc: Global, text: &mut String, bar: &Bar, lanes: Lanes) -> Added
     ensures { Adds result text.old text.new (bar_text lanes bar.now) }
 {
     let y = lane_top(lanes.top, lane_of(bar, lanes));
-    let end = bar.end_step(lanes.last);
-    let runs = bar.started.unwrap_or(end);
     text.push_str("<g>")?;
     add_bar_title(text, bar)?;
-    add_boxes(text, bar, runs, end, y)?;
+    add_boxes(alloc, text, bar, lanes.extent, y)?;
     text.push_str("</g>\n")
 }
 
-fn add_bar_of(text: &mut String, bar: &Bar, engine: u16, lanes: Lanes) -> Added
-    ensures { Adds result text.old text.new
-        (cond (bar.now.engine == engine) (bar_text lanes bar.now) []) }
+// Whether it is of this engine, and of a step that is drawn.
+fn is_shown(bar: &Bar, engine: u16, extent: Extent) -> bool
+    ensures { result ≡ is_shown engine extent bar.now }
 {
-    if bar.engine == engine {
-        add_bar(text, bar, lanes)
+    bar.engine == engine && extent.range.is_within(bar.begin, bar.end_step(extent.last))
+}
+
+fn add_bar_of(alloc: Global, text: &mut String, bar: &Bar, engine: u16, lanes: Lanes) -> Added
+    ensures { Adds result text.old text.new
+        (cond (is_shown engine lanes.extent bar.now) (bar_text lanes bar.now) []) }
+{
+    if is_shown(bar, engine, lanes.extent) {
+        add_bar(alloc, text, bar, lanes)
     } else {
         Ok(())
     }
 }
 
-fn add_bars(text: &mut String, bars: &[Bar], engine: u16, lanes: Lanes) -> Added
+fn add_bars(alloc: Global, text: &mut String, bars: &[Bar], engine: u16, lanes: Lanes) -> Added
     ensures { Adds result text.old text.new (bars_text engine lanes bars.now) }
 {
     for bar in bars {
-        add_bar_of(text, bar, engine, lanes)?;
+        add_bar_of(alloc, text, bar, engine, lanes)?;
     }
     Ok(())
 }
@@ -365,16 +324,22 @@ fn add_batch(text: &mut String, bar: &Bar, lanes: Lanes) -> Added
 {
     let y = lane_top(lanes.top, bar.lane);
     let bottom = lane_top(lanes.top, lanes.taken.saturating_add(lanes.members));
-    let wide = columns_wide(bar.begin, bar.end_step(lanes.last));
-    add_rect(text, "batch", bar.begin, y, wide, bottom.saturating_sub(y))?;
+    let begin = lanes.extent.range.column_of(bar.begin);
+    let end = lanes
+        .extent
+        .range
+        .column_of(bar.end_step(lanes.extent.last));
+    let high = bottom.saturating_sub(y);
+    add_rect(text, "batch", begin, y, columns_wide(begin, end), high)?;
     add_batch_title(text, bar.engine, bar.name)
 }
 
 fn add_batch_of(text: &mut String, bar: &Bar, engine: u16, lanes: Lanes) -> Added
     ensures { Adds result text.old text.new
-        (cond (bar.now.engine == engine && bar.now.is_batch) (batch_text lanes bar.now) []) }
+        (cond (is_shown engine lanes.extent bar.now && bar.now.is_batch)
+        (batch_text lanes bar.now) []) }
 {
-    if bar.engine == engine && bar.is_batch {
+    if is_shown(bar, engine, lanes.extent) && bar.is_batch {
         add_batch(text, bar, lanes)
     } else {
         Ok(())
@@ -400,7 +365,16 @@ fn bottom_of(lanes: Lanes) -> u32
     lanes.top.saturating_add(rows).saturating_add(4)
 }
 
+#[tactic(auto, unfolding(crate::specs::Engines::engine_name_text))]
+fn add_engine_name(text: &mut String, engine: u16, steps: u32, top: u32) -> Added
+    ensures { Adds result text.old text.new (engine_name_text engine steps top) }
+{
+    add_numbered(text, "engine", engine, top)?;
+    add_again(text, "engine", Some(engine), steps, top)
+}
+
 fn add_engine_rows(
+    alloc: Global,
     text: &mut String,
     moments: &[Moment],
     bars: &[Bar],
@@ -409,13 +383,14 @@ fn add_engine_rows(
     top: u32,
 ) -> Added
     ensures { Adds result text.old text.new
-        (engine_rows_text engine lanes.last top moments.now lanes bars.now) }
+        (engine_rows_text engine top moments.now lanes bars.now) }
 {
-    add_numbered(text, "engine", engine, top)?;
-    add_marks(text, moments, engine, top)?;
+    let columns = lanes.extent.columns();
+    add_engine_name(text, engine, columns, top)?;
+    add_marks(text, moments_in(moments, lanes.extent.range), engine, top)?;
     add_batches(text, bars, engine, lanes)?;
-    add_bars(text, bars, engine, lanes)?;
-    add_rule(text, lanes.last, bottom_of(lanes))
+    add_bars(alloc, text, bars, engine, lanes)?;
+    add_rule(text, columns, bottom_of(lanes))
 }
 
 /// Draws the engine from `top` on, where it made a step, and says where the next one begins.
@@ -425,24 +400,24 @@ pub fn add_engine(
     moments: &[Moment],
     bars: &[Bar],
     engine: u16,
-    steps: u32,
+    extent: Extent,
     top: u32,
 ) -> Result<u32, AllocError>
     ensures text { Adds result text.old text.new
-        (engine_part_text engine steps top moments.now bars.now) }
-    ensures end { IfOk result (λ end. end ≡ engine_end engine steps top moments.now bars.now) }
+        (engine_part_text engine extent top moments.now bars.now) }
+    ensures end { IfOk result (λ end. end ≡ engine_end engine extent top moments.now bars.now) }
 {
     if !has_steps(moments, engine) {
         return Ok(top);
     }
-    let taken = lay_bars(alloc, bars, engine, false, steps)?;
-    let all = lay_bars(alloc, &taken.bars, engine, true, steps)?;
+    let taken = lay_bars(alloc, bars, engine, false, extent.last)?;
+    let all = lay_bars(alloc, &taken.bars, engine, true, extent.last)?;
     let lanes = Lanes {
         top: top.saturating_add(18),
         taken: taken.lanes,
         members: all.lanes,
-        last: steps,
+        extent,
     };
-    add_engine_rows(text, moments, &all.bars, engine, lanes, top)?;
+    add_engine_rows(alloc, text, moments, &all.bars, engine, lanes, top)?;
     Ok(bottom_of(lanes).saturating_add(4))
 }

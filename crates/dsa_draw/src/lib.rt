@@ -7,18 +7,23 @@
 //! read.
 #![tactic(auto)]
 
+mod active;
 mod bands;
 mod bars;
 mod drawing;
 mod engines;
 mod geometry;
+mod labels;
 mod marks;
 mod moment;
 mod page;
+mod phases;
+mod range;
 pub mod rows;
 mod run;
 
 pub use geometry::{column_left, columns_wide, lane_top, level_high};
 pub use marks::{Mark, mark_of};
 pub use moment::{Level, Moment, group_level, queue_level, take_moment};
+pub use range::StepRange;
 pub use run::{Drawing, Story};

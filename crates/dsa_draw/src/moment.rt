@@ -2,13 +2,15 @@
 
 ghost use Rattle.std.specs.Prelude.{◌≡◌, ◌<◌, IfOk, map, option_map};
 ghost use Rattle.std.specs.List.{range_with_len};
-ghost use Rattle.dsa_draw.specs.Moments.{level_with, queue_mark, queue_level_of, group_level_of, level_of, band_count, batch_after, IsMomentOf};
+ghost use Rattle.dsa_draw.specs.Moments.{level_with, queue_mark, queue_level_of, group_level_of, level_of, band_count, batch_after, cell_brought, desc_in, desc_brought, IsMomentOf};
 
-use dsa_book::{Actor, BatchNote};
+use crate::bars::lane_number;
+use dsa_book::{Actor, BatchNote, DispatchAnswer, FetchAnswer, Reply};
+use dsa_desc::Descriptor;
 use dsa_device::Device;
-use dsa_regs::{Caps, QueueConfig};
+use dsa_regs::{Caps, Phase, QueueConfig};
 use dsa_scenario::Record;
-use dsa_store::EntryStore;
+use dsa_store::{Cell, Entry, EntryStore};
 use std::alloc::{AllocError, Global};
 
 /// How full something is: of a queue its occupancy, its threshold where it has one and its size, of
@@ -18,6 +20,8 @@ pub struct Level {
     pub filled: u16,
     pub mark: u16,
     pub limit: u16,
+    /// The phase of a queue. A group has none.
+    pub phase: Option<Phase>,
 }
 
 /// What has levels, by number.
@@ -30,13 +34,19 @@ pub enum BandKind {
 /// What a step was, and what the device says of itself after it.
 #[derive(Drop)]
 pub struct Moment {
+    /// The number of the step, from 0.
+    pub number: u32,
     pub entry: Record,
+    /// The phase of the device.
+    pub phase: Phase,
     /// Of each queue, by number.
     pub queues: Vec<Level>,
     /// Of each group, by number.
     pub groups: Vec<Level>,
     /// The batch that the engine works on whose step this was.
     pub batch: Option<u32>,
+    /// The descriptor of the entry that the step brought to an engine.
+    pub desc: Option<Descriptor>,
     /// How many entries have ended.
     pub ended: usize,
 }
@@ -48,6 +58,7 @@ fn level_with(filled: Option<u16>, mark: u16, limit: u16) -> Level
         filled: filled.unwrap_or(0),
         mark,
         limit,
+        phase: None,
     }
 }
 
@@ -67,9 +78,13 @@ pub fn queue_level<S: EntryStore>(device: &Device<S>, queue: u16) -> Level
     requires { queue < device.now.caps.queues }
     ensures { result ≡ queue_level_of device.now queue }
 {
-    match device.queue_config(queue) {
+    let level = match device.queue_config(queue) {
         Some(config) => level_with(device.occupancy(queue), queue_mark(&config), config.size),
         None => level_with(None, 0, 0),
+    };
+    Level {
+        phase: device.queue_phase(queue),
+        ..level
     }
 }
 
@@ -139,19 +154,56 @@ fn batch_after<S: EntryStore>(device: &Device<S>, entry: &Record) -> Option<u32>
     }
 }
 
+// The cell of the entry that came to an engine.
+fn cell_brought(reply: Reply) -> Option<Cell>
+    ensures { result ≡ cell_brought reply }
+{
+    match reply {
+        Reply::Dispatch(DispatchAnswer::Taken { ticket, .. }) => Some(ticket.cell),
+        Reply::Fetch(FetchAnswer::Fetched(ticket)) => Some(ticket.cell),
+        _ => None,
+    }
+}
+
+fn desc_of(entry: Option<Entry>) -> Option<Descriptor>
+    ensures { result ≡ option_map (λ entry. entry.desc) entry }
+{
+    Some(entry?.desc)
+}
+
+fn desc_in<S: EntryStore>(device: &Device<S>, cell: Option<Cell>) -> Option<Descriptor>
+    ensures { result ≡ desc_in device.now cell }
+{
+    desc_of(device.entry_in(cell?))
+}
+
+// What it is, with the PASID that the device gave it.
+fn desc_brought<S: EntryStore>(device: &Device<S>, entry: &Record) -> Option<Descriptor>
+    ensures { result ≡ desc_brought device.now entry.now }
+{
+    match entry {
+        Record::Stepped(step) => desc_in(device, cell_brought(step.reply)),
+        Record::Refused(_) => None,
+    }
+}
+
 /// What there is to draw of a step, read from the device after it.
 pub fn take_moment<S: EntryStore>(
     alloc: Global,
+    number: usize,
     device: &Device<S>,
     entry: Record,
 ) -> Result<Moment, AllocError>
-    ensures { IfOk result (λ moment. IsMomentOf device.now entry moment) }
+    ensures { IfOk result (λ moment. IsMomentOf number device.now entry moment) }
 {
     Ok(Moment {
+        number: lane_number(number),
         entry,
+        phase: device.phase(),
         queues: levels(alloc, device, BandKind::Queue)?,
         groups: levels(alloc, device, BandKind::Group)?,
         batch: batch_after(device, &entry),
+        desc: desc_brought(device, &entry),
         ended: device.fates().len(),
     })
 }

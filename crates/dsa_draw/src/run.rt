@@ -5,6 +5,7 @@ ghost use Rattle.dsa_draw.specs.Drawings.{AreMoments, IsDrawnOf, IsDrawingOf};
 
 use crate::drawing::draw;
 use crate::moment::{Moment, take_moment};
+use crate::range::StepRange;
 use dsa_book::FateRow;
 use dsa_device::Device;
 use dsa_regs::Caps;
@@ -24,7 +25,10 @@ pub struct Story {
 
 /// The drawing of a document's run, as a way to make a text of it.
 #[derive(Clone, Copy, Debug, PartialEq, Eq)]
-pub struct Drawing;
+pub struct Drawing {
+    /// The steps that have a column.
+    pub steps: StepRange,
+}
 
 impl RenderSteps for Drawing {
     type Page = Vec<Moment>;
@@ -33,7 +37,7 @@ impl RenderSteps for Drawing {
 
     ghost is_page = { λ drawing steps page. AreMoments steps page.items };
 
-    ghost is_text = { λ drawing. IsDrawnOf };
+    ghost is_text = { λ drawing. IsDrawnOf drawing.steps };
 
     fn open(&self, alloc: Global) -> Vec<Moment> {
         Vec::new(alloc)
@@ -44,7 +48,7 @@ impl RenderSteps for Drawing {
     }
 
     fn add_step<S: EntryStore>(&self, page: &mut Vec<Moment>, step: &StepMade<'_, S>) -> Added {
-        let moment = take_moment(step.alloc, step.device, *step.entry)?;
+        let moment = take_moment(step.alloc, step.number, step.device, *step.entry)?;
         page.push(moment)?;
         Ok(())
     }
@@ -62,12 +66,13 @@ impl RenderSteps for Drawing {
             moments: page,
             fates,
         };
-        draw(alloc, &story)
+        draw(alloc, &story, self.steps)
     }
 }
 
 impl Render for Drawing {
-    ghost is_rendering = { λ drawing bytes fault text. (fault ≡ None) × IsDrawingOf bytes text };
+    ghost is_rendering = { λ drawing bytes fault text. (fault ≡ None)
+        × IsDrawingOf drawing.steps bytes text };
 
     fn render(&self, alloc: Global, bytes: &[u8]) -> Rendered {
         render_steps(alloc, self, bytes)

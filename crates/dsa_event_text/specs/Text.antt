@@ -61,6 +61,10 @@ scope_text (Pasid pasid) = codes " " ++ decimal pasid
 abbrev pub command_with_operand : Command → List ℕ
 command_with_operand command = command_label command ++ scope_text (scope_of command)
 
+-- a word that is no command
+abbrev pub bad_word_text : ℕ → List ℕ
+bad_word_text word = codes "command 0x" ++ digits 16 false word
+
 -- ---- phases (profile)
 
 abbrev pub phase_word : Phase → List ℕ

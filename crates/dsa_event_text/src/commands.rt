@@ -1,7 +1,7 @@
 //! Commands in words.
 
 ghost use Rattle.std.specs.Prelude.{◌≡◌, ◌++◌, OnOk, string_bytes};
-ghost use Rattle.dsa_event_text.specs.Text.{command_with_operand, scope_text};
+ghost use Rattle.dsa_event_text.specs.Text.{bad_word_text, command_with_operand, scope_text};
 
 use crate::numbers::add_number;
 use dsa_regs::{Command, Scope};
@@ -29,4 +29,11 @@ pub fn add_command(text: &mut String, command: &Command) -> Result<(), AllocErro
 {
     text.push_str(command.label())?;
     add_scope(text, command.scope())
+}
+
+/// Adds a word of the command register that is no command.
+pub fn add_bad_word(text: &mut String, word: u32) -> Result<(), AllocError>
+    ensures { OnOk result (string_bytes text.new ≡ string_bytes text.old ++ bad_word_text word) }
+{
+    write!(text, "command 0x{word:x}")
 }

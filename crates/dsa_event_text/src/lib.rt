@@ -19,7 +19,7 @@ mod truths;
 /// What comes of adding to a text, which may want memory.
 pub type Added = Result<(), AllocError>;
 
-pub use commands::add_command;
+pub use commands::{add_bad_word, add_command};
 pub use descriptors::add_descriptor;
 pub use events::{add_event, portal_label};
 pub use lists::add_list;

@@ -9,7 +9,7 @@ ghost use Rattle.dsa_regs.specs.Config.{zero_queue, zero_group};
 ghost use Rattle.dsa_book.specs.declared.event.Event.TheVariants.{Submit, Dispatch, Fetch, Start, Finish, Issue, Poll, WriteQueue, WriteGroup, ClearError};
 ghost use Rattle.dsa_book.specs.declared.event.Kind.TheVariants.{Enqcmd, Movdir64b};
 ghost use Rattle.dsa_book.specs.declared.event.Portal.TheVariants.{Limited, Unlimited};
-ghost use Rattle.dsa_event_text.specs.Text.{command_with_operand, count_text, descriptor_text, event_text, list_text, phase_word, truth_text};
+ghost use Rattle.dsa_event_text.specs.Text.{bad_word_text, command_with_operand, count_text, descriptor_text, event_text, list_text, phase_word, truth_text};
 ghost use Rattle.dsa_event_text.specs.Worked.{desc, mask, page_move, event_ticket};
 
 /// What is counted is singular after 1 alone.
@@ -73,6 +73,8 @@ pub fn commands()
         ≡ codes "abort-wq 0x10005" ∷ codes "reset-wq 0x38000" ∷ [] }
     ensures pasid { map command_with_operand (DrainPasid 5 ∷ AbortPasid 1048575 ∷ [])
         ≡ codes "drain-pasid 5" ∷ codes "abort-pasid 1048575" ∷ [] }
+    ensures no_commands { map bad_word_text (0 ∷ 0x1f00005 ∷ 0x2100000 ∷ [])
+        ≡ codes "command 0x0" ∷ codes "command 0x1f00005" ∷ codes "command 0x2100000" ∷ [] }
 {}
 
 /// Submissions by each instruction, on each portal.

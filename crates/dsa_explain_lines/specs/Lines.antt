@@ -3,7 +3,7 @@ use Rattle.dsa_book.specs.declared.answer.Reply.TheVariants as reply
 use Rattle.std.specs.Prelude.{ℕ, cond, Bool, true, false, List, [], ◌++◌, codes, decimal}
 use Rattle.dsa_book.specs.declared.{answer.{Reply.{Reply}, DispatchAnswer.TheVariants.{Taken}}}
 use Rattle.dsa_device.specs.Running.{Running}
-use Rattle.dsa_event_text.specs.Text.{event_text}
+use Rattle.dsa_event_text.specs.Text.{bad_word_text, event_text}
 use Rattle.dsa_scenario.specs.declared.run.Record.{Record, TheVariants.{Stepped, Refused}}
 use Rattle.dsa_scenario.specs.{Lines.{record_text}, Run.{answered_by}, Steps.{Visit}}
 use Rattle.dsa_explain_lines.specs.Parts.{part_of}
@@ -11,7 +11,7 @@ use Rattle.dsa_explain_lines.specs.Parts.{part_of}
 -- what was asked; a word that is no command is no event (profile)
 abbrev pub asked_words : Record → List ℕ
 asked_words (Stepped step) = event_text step.event
-asked_words (Refused fault) = codes "command"
+asked_words (Refused refused) = bad_word_text refused.word
 
 abbrev pub is_taken_by : Reply → Bool
 is_taken_by (reply.Dispatch (Taken ticket queue)) = true
@@ -20,7 +20,7 @@ is_taken_by _ = false
 -- an entry was taken, whatever keeps the fronts of other queues
 abbrev pub is_taken : Record → Bool
 is_taken (Stepped step) = is_taken_by step.reply
-is_taken (Refused fault) = false
+is_taken (Refused refused) = false
 
 -- this part, where no entry was taken
 abbrev pub shown : List ℕ → Record → List ℕ

@@ -3,15 +3,14 @@ use Rattle.dsa_book.specs.declared.event.Event.TheVariants as event
 use Rattle.dsa_engines.specs.declared.reasons.QueueReason.TheVariants as queue
 use Rattle.dsa_engines.specs.declared.reasons.StartReason.TheVariants as start
 use Rattle.dsa_engines.specs.declared.reasons.FinishReason.TheVariants as finish
-use Rattle.std.specs.Prelude.{ℕ, ◌==◌, ◌||◌, cond, List, [], ◌∷◌, ◌++◌, Option, Some, None, is_some, codes}
+use Rattle.std.specs.Prelude.{ℕ, ◌/◌, ◌%◌, ◌^◌, ◌==◌, ◌||◌, cond, List, [], ◌∷◌, ◌++◌, Option, Some, None, is_some}
 use Rattle.std.specs.Prelude.{length, nat_lt, find, option_map, Bool, true, false, Result, Ok, Err}
-use Rattle.std.specs.Prelude.{flat_map}
+use Rattle.std.specs.Prelude.{codes, decimal, flat_map}
 use Rattle.std.specs.List.{list_any}
 use Rattle.dsa_base.specs.Numbers.{numbers_below}
 use Rattle.dsa_device.specs.Running.{Running}
 use Rattle.dsa_desc.specs.declared.Outcome.{Outcome}
-use Rattle.dsa_regs.specs.declared.Fault.{Fault}
-use Rattle.dsa_regs.specs.declared.{Command.{Command}}
+use Rattle.dsa_regs.specs.declared.Command.{Command}
 use Rattle.dsa_regs.specs.declared.Deed.{Deed, TheVariants.{Abort, Reset}}
 use Rattle.dsa_regs.specs.{Command.{deed_of}}
 use Rattle.dsa_book.specs.{declared.event.Event.{Event}, State.{Work, State}, Work.{front_of}}
@@ -32,6 +31,7 @@ use Rattle.dsa_explain_lines.specs.Sentences.{start_sentence, finish_sentence, i
 use Rattle.dsa_explain.specs.Done.{done_reason}
 use Rattle.dsa_explain_lines.specs.Sentences.{no_engine, no_queue, done_sentence, fate_sentence, unnamed_sentence}
 use Rattle.dsa_event_text.specs.Text.{count_text}
+use Rattle.dsa_scenario.specs.declared.actions.BadWord.{BadWord}
 use Rattle.dsa_explain_lines.specs.Sentences.{write_sentence, clear_sentence, wait_count, kept_words}
 
 -- the sentence of a reason, behind its mark; nothing where there is no reason
@@ -195,12 +195,20 @@ event_part s event.ClearError = told_of clear_sentence (clear_reason s.work.setu
 abbrev pub room_part : ℕ → List ℕ
 room_part capacity = count_text (codes ": the history has room for ") capacity (codes "step") (codes "steps")
 
--- what is said of a word that is no command
-abbrev pub word_part : List ℕ
-word_part = codes ": no command has the number of the word, or one of its bits 30:25 is set"
+-- what is said of bits 30:25 of a word, which have to be clear
+abbrev pub reserved_part : ℕ → List ℕ
+reserved_part reserved = codes ", with " ++ decimal reserved ++ codes " in bits 30:25"
+
+-- what is said of a word that is no command, with this number
+abbrev pub no_command_part : ℕ → ℕ → List ℕ
+no_command_part number reserved = codes ": no command has the number " ++ decimal number ++ reserved_part reserved
+
+-- the same of a word: its number is in bits 24:20
+abbrev pub word_part : ℕ → List ℕ
+word_part word = no_command_part (word / 2 ^ 20 % 2 ^ 5) (word / 2 ^ 25 % 2 ^ 6)
 
 -- why a device that stands so answers the event as it does, or why the word is refused (profile)
-abbrev pub part_of : Running → Result Event Fault → List ℕ
-part_of now (Err fault) = word_part
+abbrev pub part_of : Running → Result Event BadWord → List ℕ
+part_of now (Err refused) = word_part refused.word
 part_of now (Ok event) =
     cond (length now.history == now.capacity) (room_part now.capacity) (event_part now.state event)

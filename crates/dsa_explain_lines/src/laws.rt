@@ -1,12 +1,11 @@
 //! A law of the explanations, on a function with nothing to do.
 
 ghost use Rattle.std.specs.Prelude.{◌≡◌, ◌≢◌, ℕ, true, false, [], Ok, Err};
-ghost use Rattle.dsa_regs.specs.declared.Fault.{Fault};
 ghost use Rattle.dsa_book.specs.declared.event.Step.{Step};
 ghost use Rattle.dsa_book.specs.{Choice.{nothing}, State.{Work}, Work.{may_leave}, Machine.{Reaches, may_follow}};
 ghost use Rattle.dsa_engines.specs.Dispatch.{is_offered};
 ghost use Rattle.dsa_device.specs.Running.{Running};
-ghost use Rattle.dsa_scenario.specs.declared.run.Record.TheVariants.{Stepped, Refused};
+ghost use Rattle.dsa_scenario.specs.declared.{actions.BadWord.{BadWord}, run.Record.TheVariants.{Stepped, Refused}};
 ghost use Rattle.dsa_explain_lines.specs.{Lines.{shown}, Parts.{any_reason, part_of}, Success.{is_success}};
 
 use dsa_admin::{commands_follow_reasons, polls_follow_reasons};
@@ -22,8 +21,8 @@ pub fn answers_have_reasons()
         → may_follow now.caps now.capacity now.history step ≡ true
         → is_success step.reply ≡ false
         → shown (part_of now (Ok step.event)) (Stepped step) ≢ [] }
-    ensures words { (now : Running) (fault : Fault)
-        → shown (part_of now (Err fault)) (Refused fault) ≢ [] }
+    ensures words { (now : Running) (word : BadWord)
+        → shown (part_of now (Err word)) (Refused word) ≢ [] }
     ensures no_queue { (w : Work) (engine queue : ℕ)
         → may_leave w engine nothing ≡ true
         → any_reason w engine w.setup.caps.queues ≡ false

@@ -5,7 +5,7 @@ ghost use Rattle.dsa_event_text.specs.Added.{Adds};
 ghost use Rattle.dsa_explain_lines.specs.Lines.{asked_words, is_taken, line_with, shown};
 
 use dsa_book::{DispatchAnswer, Reply};
-use dsa_event_text::{Added, add_event};
+use dsa_event_text::{Added, add_bad_word, add_event};
 use dsa_scenario::{Record, add_answer};
 use itoa::Buffer;
 
@@ -17,13 +17,13 @@ fn add_place(text: &mut String, number: usize) -> Added
     text.push_str(" ")
 }
 
-/// Adds what a record answers, in words: the event, or `command` of a word that is none.
+/// Adds what a record answers, in words: the event, or the word that is no command.
 pub fn add_asked(text: &mut String, entry: &Record) -> Added
     ensures { Adds result text.old text.new (asked_words entry.now) }
 {
     match entry {
         Record::Stepped(step) => add_event(text, &step.event),
-        Record::Refused(_) => text.push_str("command"),
+        Record::Refused(refused) => add_bad_word(text, refused.word),
     }
 }
 

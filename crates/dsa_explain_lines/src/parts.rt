@@ -1,6 +1,6 @@
 //! What a line tells behind an answer.
 
-ghost use Rattle.std.specs.Prelude.{◌++◌, codes};
+ghost use Rattle.std.specs.Prelude.{◌≡◌, ◌++◌, codes};
 ghost use Rattle.dsa_event_text.specs.Added.{Adds};
 ghost use Rattle.dsa_book.specs.Machine.{intake_of};
 ghost use Rattle.dsa_queues.specs.{Submission.{submit_reason}, Write.{clear_reason, write_group_reason, write_queue_reason}};
@@ -9,7 +9,7 @@ ghost use Rattle.dsa_engines.specs.Batch.{fetch_reason};
 ghost use Rattle.dsa_explain.specs.Done.{done_reason};
 ghost use Rattle.dsa_explain.specs.Held.{awaited_entry};
 ghost use Rattle.dsa_explain_lines.specs.Sentences.{clear_sentence, done_sentence, fetch_sentence, no_engine, poll_sentence, submit_sentence, write_sentence};
-ghost use Rattle.dsa_explain_lines.specs.Parts.{event_part, finish_part, issue_part, part_of, start_part, told_of};
+ghost use Rattle.dsa_explain_lines.specs.Parts.{event_part, finish_part, issue_part, part_of, no_command_part, reserved_part, start_part, told_of};
 
 use crate::commands::{add_issue_reason, add_poll_reason};
 use crate::dispatch::add_dispatch_part;
@@ -24,10 +24,12 @@ use crate::writes::{add_clear_reason, add_write_reason};
 use dsa_book::{Event, Kind, Portal, Ticket};
 use dsa_desc::Outcome;
 use dsa_device::{Device, WriteReason};
-use dsa_event_text::{Added, add_count};
+use dsa_event_text::{Added, add_count, add_number};
 use dsa_explain::{awaited_entry, done_reason};
-use dsa_regs::{Command, Fault};
+use dsa_regs::{Command, CommandWord};
+use dsa_scenario::Asked;
 use dsa_store::EntryStore;
+use std::fmt::Write;
 
 fn add_submit_part<S: EntryStore>(
     text: &mut String,
@@ -192,18 +194,29 @@ pub fn add_event_part<S: EntryStore>(text: &mut String, device: &Device<S>, even
     }
 }
 
+fn add_no_command(text: &mut String, number: u32, reserved: u32) -> Added
+    ensures { Adds result text.old text.new (no_command_part number reserved) }
+{
+    add_number(text, ": no command has the number ", number)?;
+    add_reserved(text, reserved)
+}
+
+fn add_reserved(text: &mut String, reserved: u32) -> Added
+    ensures { Adds result text.old text.new (reserved_part reserved) }
+{
+    write!(text, ", with {reserved} in bits 30:25")
+}
+
 /// Adds why the device answers the event as it does, or why the word is refused.
-pub fn add_part<S: EntryStore>(
-    text: &mut String,
-    device: &Device<S>,
-    asked: &Result<Event, Fault>,
-) -> Added
+pub fn add_part<S: EntryStore>(text: &mut String, device: &Device<S>, asked: &Asked) -> Added
     ensures { Adds result text.old text.new (part_of device.now asked.now) }
 {
-    let Ok(event) = asked else {
-        return text.push_str(
-            ": no command has the number of the word, or one of its bits 30:25 is set",
-        );
+    let event = match asked {
+        Ok(event) => event,
+        Err(refused) => {
+            let word = CommandWord(refused.word);
+            return add_no_command(text, word.number(), word.reserved());
+        }
     };
     if device.is_full() {
         let before = ": the history has room for ";

@@ -9,26 +9,26 @@ ghost use Rattle.dsa_book.specs.declared.answer.DispatchAnswer.TheVariants.{Full
 ghost use Rattle.dsa_book.specs.declared.answer.FetchAnswer.TheVariants as fetch;
 ghost use Rattle.dsa_book.specs.declared.answer.FinishAnswer.TheVariants as finish;
 ghost use Rattle.dsa_book.specs.declared.answer.IssueAnswer.TheVariants as issue;
-ghost use Rattle.dsa_book.specs.declared.answer.IssueAnswer.TheVariants.{Ended};
 ghost use Rattle.dsa_book.specs.declared.answer.PollAnswer.TheVariants as poll;
-ghost use Rattle.dsa_book.specs.declared.answer.PollAnswer.TheVariants.{Nothing};
+ghost use Rattle.dsa_book.specs.declared.answer.{IssueAnswer.TheVariants.{Ended}, PollAnswer.TheVariants.{Nothing}};
 ghost use Rattle.dsa_book.specs.declared.answer.Reply.TheVariants as reply;
 ghost use Rattle.dsa_book.specs.declared.answer.StartAnswer.TheVariants as start;
 ghost use Rattle.dsa_book.specs.declared.answer.SubmitAnswer.TheVariants as submit;
 ghost use Rattle.dsa_book.specs.declared.answer.WriteAnswer.TheVariants as write;
 ghost use Rattle.dsa_worked.specs.Setup.{dispatched, issued, no_op, polled, step_of_a_take, ticket, to_shared};
+ghost use Rattle.dsa_scenario.specs.Worked.{bad_word, no_command};
 ghost use Rattle.dsa_scenario.specs.declared.run.Record.TheVariants.{Refused, Stepped};
 ghost use Rattle.dsa_explain_lines.specs.Lines.{asked_words, explained_line, is_taken, line_with, shown};
 ghost use Rattle.dsa_explain_lines.specs.{Run.{IsExplanationOf}, Success.{is_success}};
 ghost use Rattle.dsa_explain_rows.specs.Lines.{new_device, at_last, steps_of_three, with_two_queues};
 
-/// What was asked, where a word that is no command is told as one word.
+/// What was asked; a word that is no command is told in hexadecimal.
 #[tactic(auto, unfolding(dsa_scenario::specs::Worked::digits_on_literals))]
 pub fn asked()
     ensures step { asked_words (Stepped (dispatched 3 Idle)) ≡ codes "dispatch e3" }
     ensures command { asked_words (Stepped (issued DrainAll (Ended 0)))
         ≡ codes "command drain-all" }
-    ensures word { asked_words (Refused BadCommand) ≡ codes "command" }
+    ensures word { asked_words (Refused (bad_word 0x1f00005)) ≡ codes "command 0x1f00005" }
 {}
 
 /// The part behind an answer is left out where an entry was taken, and nowhere else.
@@ -37,12 +37,12 @@ pub fn parts_that_are_shown()
         (Stepped (step_of_a_take 0 0 0)
         ∷ Stepped (dispatched 0 Idle)
         ∷ Stepped (to_shared no_op 0 0)
-        ∷ Refused BadCommand
+        ∷ Refused no_command
         ∷ [])
         ≡ true ∷ false ∷ false ∷ false ∷ [] }
     ensures left_out { shown (codes "why") (Stepped (step_of_a_take 0 0 0)) ≡ [] }
     ensures idle { shown (codes "why") (Stepped (dispatched 0 Idle)) ≡ codes "why" }
-    ensures word { shown (codes "why") (Refused BadCommand) ≡ codes "why" }
+    ensures word { shown (codes "why") (Refused no_command) ≡ codes "why" }
 {}
 
 /// Which answers need no reason.
@@ -111,8 +111,8 @@ pub fn lines()
         ≡ codes "0 command drain-all -> ended 0\n" }
     ensures taken { line_with (codes ": why") 7 (Stepped (step_of_a_take 1 4 9))
         ≡ codes "7 dispatch e1 -> taken 9 from 1\n" }
-    ensures word { line_with (codes ": why") 3 (Refused BadCommand)
-        ≡ codes "3 command -> refused 13 BadCommand: why\n" }
+    ensures word { line_with (codes ": why") 3 (Refused no_command)
+        ≡ codes "3 command 0x0 -> refused 13 BadCommand: why\n" }
 {}
 
 /// The line of a step has what stands against it in the state before.
@@ -120,8 +120,8 @@ pub fn lines()
 pub fn explained()
     ensures poll { explained_line new_device 5 (Stepped (polled Nothing))
         ≡ codes "5 poll -> nothing: no command is active\n" }
-    ensures word { explained_line new_device 5 (Refused BadCommand)
-        ≡ codes "5 command -> refused 13 BadCommand: no command has the number of the word, or one of its bits 30:25 is set\n" }
+    ensures word { explained_line new_device 5 (Refused no_command)
+        ≡ codes "5 command 0x0 -> refused 13 BadCommand: no command has the number 0, with 0 in bits 30:25\n" }
     ensures idle { explained_line with_two_queues 9 (Stepped (dispatched 1 Idle))
         ≡ codes "9 dispatch e1 -> idle: q2 is empty\n" }
     ensures taken { explained_line with_two_queues 9 (Stepped (dispatched 0 (Taken (ticket 2 2) 1)))
@@ -133,5 +133,5 @@ pub fn explained()
 pub fn texts()
     ensures none { IsExplanationOf [] new_device [] }
     ensures three { IsExplanationOf steps_of_three at_last
-        (codes "0 command enable-device -> ended 0\n1 poll -> nothing: no command is active\n2 command -> refused 13 BadCommand: no command has the number of the word, or one of its bits 30:25 is set\n") }
+        (codes "0 command enable-device -> ended 0\n1 poll -> nothing: no command is active\n2 command 0x0 -> refused 13 BadCommand: no command has the number 0, with 0 in bits 30:25\n") }
 {}

@@ -3,7 +3,7 @@
 ghost use Rattle.std.specs.Prelude.{◌≡◌, [], ◌∷◌, Some, None, Ok, Err, codes, decimal, map, take};
 ghost use Rattle.dsa_regs.specs.Worked.{caps, dedicated_queue, first_group, second_group, shared_queue};
 ghost use Rattle.dsa_regs.specs.declared.Command.TheVariants.{AbortAll, AbortPasid, DisableDevice, DrainAll, DrainPasid, DrainWq, EnableDevice, EnableWq, ResetWq};
-ghost use Rattle.dsa_regs.specs.declared.Fault.TheVariants.{BadCommand, BadIndex, Busy, Locked};
+ghost use Rattle.dsa_regs.specs.declared.Fault.TheVariants.{BadIndex, Busy, Locked};
 ghost use Rattle.dsa_regs.specs.declared.Scope.TheVariants.{Device, Pasid, Queue};
 ghost use Rattle.dsa_regs.specs.declared.layout.ListUse.TheVariants as list;
 ghost use Rattle.dsa_book.specs.declared.answer.ClearAnswer.TheVariants as clear;
@@ -30,6 +30,7 @@ ghost use Rattle.dsa_worked.specs.Submissions.{dedicated_queue_overflows, forged
 ghost use Rattle.dsa_regs.specs.declared.Deed.TheVariants.{Disable, Enable};
 ghost use Rattle.dsa_regs.specs.declared.reasons.CheckReason.TheVariants as check;
 ghost use Rattle.dsa_admin.specs.Command.{found_by_check};
+ghost use Rattle.dsa_scenario.specs.Worked.{bad_word};
 ghost use Rattle.dsa_explain_lines.specs.Parts.{dispatch_part, issue_part, joint, keeping_part, lists_part, part_of, queue_part, room_part, start_part, told_of, word_part};
 ghost use Rattle.dsa_explain_rows.specs.After.{of_three_groups, of_two_queues, told_after, told_from_first, with_few_buffers};
 ghost use Rattle.dsa_explain_rows.specs.Histories.{batch_of_the_second_group, two_members_fail};
@@ -292,7 +293,12 @@ pub fn of_any()
         ≡ codes ": the history has room for 0 steps" }
     ensures poll { part_of (running_at_first caps 1) (Ok event.Poll)
         ≡ codes ": no command is active" }
-    ensures word { part_of (running_at_first caps 1) (Err BadCommand)
-        ≡ codes ": no command has the number of the word, or one of its bits 30:25 is set" }
-    ensures word_without_room { part_of (running_at_first caps 0) (Err BadCommand) ≡ word_part }
+    ensures word { part_of (running_at_first caps 1) (Err (bad_word 0x1f00005))
+        ≡ codes ": no command has the number 31, with 0 in bits 30:25" }
+    ensures word_with_bit_31 { part_of (running_at_first caps 1) (Err (bad_word 0x82100000))
+        ≡ codes ": no command has the number 1, with 1 in bits 30:25" }
+    ensures largest_word { word_part 0xffffffff
+        ≡ codes ": no command has the number 31, with 63 in bits 30:25" }
+    ensures word_without_room { part_of (running_at_first caps 0) (Err (bad_word 0))
+        ≡ codes ": no command has the number 0, with 0 in bits 30:25" }
 {}

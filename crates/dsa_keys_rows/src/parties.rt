@@ -3,10 +3,8 @@
 ghost use Rattle.std.specs.Prelude.{◌≡◌, [], ◌∷◌, Some, None, map, option_map};
 ghost use Rattle.dsa_book.specs.declared.answer.Reply.TheVariants.{Submit, Finish, Poll};
 ghost use Rattle.dsa_book.specs.declared.answer.SubmitAnswer.TheVariants.{Accepted, Retry};
-ghost use Rattle.dsa_book.specs.declared.answer.Cause.TheVariants.{NotEnabled};
-ghost use Rattle.dsa_book.specs.declared.answer.PollAnswer.TheVariants.{Nothing};
-ghost use Rattle.dsa_book.specs.declared.answer.FinishAnswer.TheVariants.{Done};
-ghost use Rattle.dsa_book.specs.declared.fate.Fate.TheVariants.{Completed};
+ghost use Rattle.dsa_book.specs.declared.{answer.Cause.TheVariants.{NotEnabled}, fate.Fate.TheVariants.{Completed}};
+ghost use Rattle.dsa_book.specs.declared.answer.{FinishAnswer.TheVariants.{Done}, PollAnswer.TheVariants.{Nothing}};
 ghost use Rattle.dsa_worked.specs.Setup.{row, ticket};
 ghost use Rattle.dsa_keys.specs.Key.{key};
 ghost use Rattle.dsa_keys.specs.Parties.{HaveEqualKeys, IsStored, labels_for, offer_at, sight_of};

@@ -18,3 +18,4 @@ pub use queues::Queues;
 pub use reasons::{
     ClearReason, SubmitReason, WriteReason, submissions_follow_reasons, writes_follow_reasons,
 };
+pub use submission::limit_of;

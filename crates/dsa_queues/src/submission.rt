@@ -18,8 +18,9 @@ use dsa_desc::Descriptor;
 use dsa_regs::{Phase, QueueConfig};
 use dsa_store::{Entry, EntryStore, ListId};
 
-// The number of entries at which the portal turns away.
-fn limit_of(config: &QueueConfig, portal: Portal) -> u16
+/// The number of entries at which the portal turns away: the size of the queue, or its threshold at
+/// the limited portal of a shared one.
+pub fn limit_of(config: &QueueConfig, portal: Portal) -> u16
     ensures { result ≡ limit_of config.now portal }
 {
     match portal {

@@ -176,13 +176,15 @@ impl CommandWord {
         self.0 & OPERAND_BITS
     }
 
-    fn number(self) -> u32
+    /// Bits 24:20: the number of the command.
+    pub fn number(self) -> u32
         ensures { result ≡ self.0 / 2 ^ 20 % 2 ^ 5 }
     {
         self.0 >> 20 & 0x1f
     }
 
-    fn reserved(self) -> u32
+    /// Bits 30:25, which must be clear.
+    pub fn reserved(self) -> u32
         ensures { result ≡ self.0 / 2 ^ 25 % 2 ^ 6 }
     {
         self.0 >> 25 & 0x3f

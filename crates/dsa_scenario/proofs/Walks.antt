@@ -2,10 +2,11 @@
 use Rattle.std.proofs.Common.{◌≡◌, ℕ, List, [], ◌∷◌, ◌++◌, Result, refl, ap, ◌∙◌, sym, ◌+◌, length, map, arith, subst}
 use Rattle.std.proofs.Common.{append_assoc, append-nil, filter_map, length-append}
 use Rattle.std.specs.Prelude.{slice_get, suc}
-use Rattle.dsa_regs.specs.declared.{Caps.{Caps}, Fault.{Fault}}
+use Rattle.dsa_regs.specs.declared.Caps.{Caps}
 use Rattle.dsa_book.specs.declared.{answer.Ticket.{Ticket}, event.Event.{Event}}
 use Rattle.dsa_book.specs.{Machine.{stored_steps}}
 use Rattle.dsa_device.specs.{Running.{Running, running_at_first, IsReplay}, Runs.{IsRunOf}}
+use Rattle.dsa_scenario.specs.declared.actions.BadWord.{BadWord}
 use Rattle.dsa_scenario.specs.declared.{actions.Action.{Action}, run.Record.{Record}}
 use Rattle.dsa_scenario.specs.Run.{ticket_given_by, event_of, answered_by, steps_of_records, AreOf, Leads, IsTable}
 use Rattle.dsa_scenario.specs.Steps.{standing, Visit, visit, visits, IsAtFirst, IsWalkTo, IsTextOfRun}
@@ -39,9 +40,9 @@ stands caps capacity records now run =
     rw (replayed, ← history, ← run.same_caps, ← run.same_capacity) refl
 
 -- a walk with one action more, its ticket and its step
-pub one_more : {Page : Type 0} (is_page : List Visit → Page → Type 0) (told_before : Running → Result Event Fault → List ℕ)
+pub one_more : {Page : Type 0} (is_page : List Visit → Page → Type 0) (told_before : Running → Result Event BadWord → List ℕ)
     (caps : Caps) (capacity : ℕ) (now new : Running) (actions : List Action) (a : Action) (number : ℕ)
-    (tickets more : List Ticket) (page longer : Page) (told : List ℕ) (entry : Record) (asked : Result Event Fault)
+    (tickets more : List Ticket) (page longer : Page) (told : List ℕ) (entry : Record) (asked : Result Event BadWord)
     → ((before : List Record) → IsTable (slice_get tickets) before → asked ≡ event_of before a)
     → answered_by entry ≡ asked → Leads now entry new → more ≡ tickets ++ filter_map ticket_given_by (entry ∷ [])
     → told ≡ told_before now asked

@@ -47,10 +47,14 @@ abbrev pub outcome_of_fault : Bool → Outcome
 outcome_of_fault true = PageFault
 outcome_of_fault false = Success
 
--- a command, or the refusal of a word that is none (profile)
-abbrev pub action_of_command : Result Command Fault → Action
-action_of_command (Ok command) = Ask (event.Issue command)
-action_of_command (Err fault) = Refuse fault
+-- what a word asks, by what it is: a command, or refused (profile)
+abbrev pub action_of_command : ℕ → Result Command Fault → Action
+action_of_command word (Ok command) = Ask (event.Issue command)
+action_of_command word (Err fault) = Refuse (record { word = word; fault = fault })
+
+-- what a word of the command register asks
+abbrev pub action_of_word : ℕ → Action
+action_of_word word = action_of_command word (command_of word)
 
 -- ---- kinds of steps
 
@@ -122,7 +126,7 @@ row_of_kind kind.Finish = kind_row (codes "finish") (
     (λ engine name fault. Finish engine name (outcome_of_fault fault))
 -- a word for the command register
 row_of_kind kind.Command = kind_row (codes "command") ((codes "word", bits 32) ∷ [])
-    (λ word. action_of_command (command_of word))
+    action_of_word
 row_of_kind kind.Poll = kind_row (codes "poll") [] (Ask event.Poll)
 row_of_kind kind.Clear = kind_row (codes "clear") [] (Ask event.ClearError)
 

@@ -135,7 +135,7 @@ line_of_text text = text ++ 10 ∷ []
 -- what a step object comes to prints the answer, or the refusal of its word
 abbrev pub record_text : Record → List ℕ
 record_text (Stepped step) = reply_text step.reply
-record_text (Refused fault) = refusal_text fault
+record_text (Refused word) = refusal_text word.fault
 
 -- a line for each step object, and then one for each entry that ended
 abbrev pub lines_of_run : List Record → List FateRow → List ℕ

@@ -3,12 +3,12 @@ use Rattle.dsa_book.specs.declared.answer.Reply.TheVariants as reply
 use Rattle.dsa_book.specs.declared.event.Event.TheVariants as event
 use Rattle.std.specs.Prelude.{◌≡◌, ℕ, ◌==◌, true, List, [], ◌∷◌, ◌++◌, Option, Some, None, Result, Ok, Err, find}
 use Rattle.std.specs.Prelude.{filter_map, unwrap_or, ⊤}
-use Rattle.dsa_regs.specs.declared.{Caps.{Caps}, Fault.{Fault}}
+use Rattle.dsa_regs.specs.declared.Caps.{Caps}
 use Rattle.dsa_book.specs.declared.answer.{Ticket.{Ticket}, SubmitAnswer.TheVariants.{Accepted}}
 use Rattle.dsa_book.specs.declared.answer.{FetchAnswer.TheVariants.{Fetched}, Reply.{Reply}}
 use Rattle.dsa_book.specs.declared.event.{Event.{Event}, Step.{Step}}
 use Rattle.dsa_book.specs.{State.{State}, Machine.{is_run, replay, stored_steps}}
-use Rattle.dsa_scenario.specs.declared.actions.Action.{Action, TheVariants.{Ask, Finish, Refuse}}
+use Rattle.dsa_scenario.specs.declared.actions.{Action.{Action, TheVariants.{Ask, Finish, Refuse}}, BadWord.{BadWord}}
 use Rattle.dsa_scenario.specs.declared.run.Record.{Record, TheVariants.{Stepped, Refused}}
 use Rattle.dsa_device.specs.{Running.{Running, after_answer}}
 use Rattle.dsa_scenario.specs.Lines.{lines_of_run}
@@ -23,7 +23,7 @@ given_by_reply _ = None
 
 abbrev pub ticket_given_by : Record → Option Ticket
 ticket_given_by (Stepped step) = given_by_reply step.reply
-ticket_given_by (Refused fault) = None
+ticket_given_by (Refused word) = None
 
 -- the ticket under which the name was given in these records
 abbrev pub found : List Record → ℕ → Option Ticket
@@ -40,15 +40,15 @@ IsTable table records = (name : ℕ) → table name ≡ found records name
 -- ---- events
 
 -- the event that an action asks for after these records, or the refusal of its word (profile)
-abbrev pub event_of : List Record → Action → Result Event Fault
+abbrev pub event_of : List Record → Action → Result Event BadWord
 event_of before (Ask e) = Ok e
 event_of before (Finish engine name outcome) = Ok (event.Finish engine (ticket_of_name before name) outcome)
-event_of before (Refuse fault) = Err fault
+event_of before (Refuse word) = Err word
 
 -- the event that a record answers, or the refusal that it is
-abbrev pub answered_by : Record → Result Event Fault
+abbrev pub answered_by : Record → Result Event BadWord
 answered_by (Stepped step) = Ok step.event
-answered_by (Refused fault) = Err fault
+answered_by (Refused word) = Err word
 
 -- after those before, there is a record for each action, in order (profile)
 abbrev pub AreOf : List Record → List Action → List Record → Type 0
@@ -63,7 +63,7 @@ AreOf before (action ∷ actions) (entry ∷ entries) =
 -- the step that the device made for it
 abbrev pub step_of : Record → Option Step
 step_of (Stepped step) = Some step
-step_of (Refused fault) = None
+step_of (Refused word) = None
 
 -- the steps that the device made
 abbrev pub steps_of_records : List Record → List Step
@@ -72,7 +72,7 @@ steps_of_records records = filter_map step_of records
 -- what a record says of the device: it made the step, or was not asked
 abbrev pub Leads : Running → Record → Running → Type 0
 Leads now (Stepped step) after = after_answer now step.event step.reply ≡ Some after
-Leads now (Refused fault) after = after ≡ now
+Leads now (Refused word) after = after ≡ now
 
 -- the lines are those of a run of these actions on a new device of these caps and this capacity,
 -- with the fates that its history leads to (profile)

@@ -21,7 +21,7 @@ use Rattle.dsa_book.specs.declared.event.{Event.{Event}, Kind.TheVariants.{Enqcm
 use Rattle.dsa_book.specs.declared.event.Portal.TheVariants.{Limited}
 use Rattle.dsa_book.specs.declared.fate.{Fate.{Fate}, FateRow.{FateRow}}
 use Rattle.dsa_device.specs.Running.{Running, running_at_first}
-use Rattle.dsa_scenario.specs.declared.actions.Action.{Action, TheVariants.{Ask, Finish, Refuse}}
+use Rattle.dsa_scenario.specs.declared.actions.{Action.{Action, TheVariants.{Ask, Finish, Refuse}}, BadWord.{BadWord}}
 use Rattle.dsa_scenario.specs.declared.run.Record.{Record, TheVariants.{Stepped, Refused}}
 use Rattle.dsa_scenario.specs.{Fields.{whole_of}, Steps.{Visit, visits}}
 
@@ -273,13 +273,21 @@ abbrev pub submission_of_a_run : Event
 submission_of_a_run =
     event.Submit 0 0 Limited (Enqcmd 1) (record { pasid = 0; flags = 0; op = 3; size = 4096 })
 
+-- a word that is no command
+abbrev pub bad_word : ℕ → BadWord
+bad_word word = record { word = word; fault = BadCommand }
+
+-- the word 0, which is none
+abbrev pub no_command : BadWord
+no_command = bad_word 0
+
 abbrev pub actions_of_a_run : List Action
 actions_of_a_run =
     Ask (event.WriteQueue 0 queue_of_a_run) ∷
     Ask (event.WriteGroup 0 group_of_a_run) ∷
     Ask (event.Issue EnableDevice) ∷
     Ask (event.Issue (EnableWq 0)) ∷
-    Refuse BadCommand ∷
+    Refuse no_command ∷
     Ask submission_of_a_run ∷
     Ask (event.Dispatch 0) ∷
     Finish 0 0 Success ∷
@@ -295,7 +303,7 @@ records_of_a_submission =
     stepped (event.WriteGroup 0 group_of_a_run) (reply.Write Written) ∷
     stepped (event.Issue EnableDevice) (reply.Issue (Ended 0)) ∷
     stepped (event.Issue (EnableWq 0)) (reply.Issue (Ended 0)) ∷
-    Refused BadCommand ∷
+    Refused no_command ∷
     stepped submission_of_a_run (reply.Submit (Accepted (record_ticket 3 0))) ∷ []
 
 abbrev pub records_of_a_run : List Record

@@ -2,9 +2,8 @@
 
 ghost use Rattle.std.specs.Prelude.{◌≡◌, map, IfSome};
 ghost use Rattle.serde_json.specs.View.{view};
-ghost use Rattle.dsa_regs.specs.Command.{command_of};
 ghost use Rattle.dsa_scenario.specs.Fields.{row_of_field};
-ghost use Rattle.dsa_scenario.specs.Actions.{caps_of, portal_of_limited, outcome_of_fault, action_of_command, kind_text, rows_of_kind, kind_named, kind_of, action_by, action_of};
+ghost use Rattle.dsa_scenario.specs.Actions.{caps_of, portal_of_limited, outcome_of_fault, action_of_word, kind_text, rows_of_kind, kind_named, kind_of, action_by, action_of};
 
 use crate::fields::{
     Field, Form, digits_field, truth_field, u8_field, u16_field, u32_field, u64_field,
@@ -99,6 +98,7 @@ const COMMAND: [Field; 1] = table_of!("word": bits!(32));
 
 impl StepKind {
     /// The kind of this name.
+    #[inline(always)]
     pub fn parse(name: &str) -> Option<StepKind>
         ensures found { IfSome result (λ kind. kind_text kind ≡ name.now) }
         ensures named { result ≡ kind_named name.now }
@@ -176,7 +176,15 @@ pub enum Action {
         outcome: Outcome,
     },
     /// A word that is no command. It is no event, and the device is not asked.
-    Refuse(Fault),
+    Refuse(BadWord),
+}
+
+/// A word of the command register that is no command.
+#[derive(Clone, Copy, Debug, PartialEq, Eq)]
+pub struct BadWord {
+    pub word: u32,
+    /// What refuses it.
+    pub fault: Fault,
 }
 
 /// The object `caps`.
@@ -323,11 +331,11 @@ fn parse_finish(object: &Value) -> Option<Action>
 
 #[inline(always)]
 fn action_of_word(word: u32) -> Action
-    ensures { result ≡ action_of_command (command_of word) }
+    ensures { result ≡ action_of_word word }
 {
     match CommandWord::parse(word) {
         Ok(command) => Action::Ask(Event::Issue { command }),
-        Err(fault) => Action::Refuse(fault),
+        Err(fault) => Action::Refuse(BadWord { word, fault }),
     }
 }
 

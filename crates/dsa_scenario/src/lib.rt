@@ -24,7 +24,9 @@ mod streaming;
 mod watched;
 mod writing;
 
-pub use actions::{Action, KIND_NAMES, KINDS, StepKind, kind_of, parse_action, parse_caps};
+pub use actions::{
+    Action, BadWord, KIND_NAMES, KINDS, StepKind, kind_of, parse_action, parse_caps,
+};
 pub use counted::CountedReader;
 pub use document::{Head, check_head, parse_head, parse_json};
 pub use faults::ScenarioFault;

@@ -204,7 +204,7 @@ pub fn add_answer(text: &mut String, entry: &Record) -> Result<(), AllocError>
 {
     match entry {
         Record::Stepped(step) => add_reply(text, step.reply),
-        Record::Refused(fault) => add_refusal(text, *fault),
+        Record::Refused(word) => add_refusal(text, word.fault),
     }
 }
 

@@ -4,7 +4,7 @@ ghost use Rattle.std.specs.Prelude.{⊤, ◌≡◌, ◌≢◌, ◌^◌, ◌+◌,
 ghost use Rattle.serde_json.specs.Data.{negative, null, boolean, number, string, array, no_items, item, no_members};
 ghost use Rattle.dsa_desc.specs.declared.Outcome.TheVariants.{Success, PageFault};
 ghost use Rattle.dsa_regs.specs.declared.Command.TheVariants.{EnableDevice, EnableWq};
-ghost use Rattle.dsa_regs.specs.declared.Fault.TheVariants.{BadCommand, Busy, BadIndex};
+ghost use Rattle.dsa_regs.specs.declared.Fault.TheVariants.{Busy, BadIndex};
 ghost use Rattle.dsa_book.specs.declared.answer.Cause.TheVariants.{AtLimit, NotEnabled, WrongKind};
 ghost use Rattle.dsa_book.specs.declared.answer.ClearAnswer.TheVariants.{Cleared, Nothing, Full};
 ghost use Rattle.dsa_book.specs.declared.answer.DispatchAnswer.TheVariants.{Taken, Idle, Full};
@@ -41,6 +41,7 @@ ghost use Rattle.dsa_scenario.specs.Scenario.{HasFault, IsCutShort, IsRenderingO
 ghost use Rattle.dsa_scenario.specs.Steps.{line_of_step, standing, visit, visits, AreLinesOfSteps, IsAtFirst, IsTextOfDocument, IsTextOfRun, IsWalkTo};
 ghost use Rattle.dsa_scenario.specs.Streams.{IsPageOfRest, BeginWith, HasWalked, IsPartWritten, IsTextAdded, IsTextCut, HasTakenLines, HasRefusedLines, AreFirstLines, AreLinesOfStart, IsTextBegun};
 ghost use Rattle.dsa_scenario.specs.Watched.{watched_contents, has_refused, is_closed, IsWrittenFor};
+ghost use Rattle.dsa_scenario.specs.Worked.{bad_word, no_command};
 ghost use Rattle.dsa_scenario.specs.Worked.{two_polls, actions_of_a_run, actions_of_a_submission, caps_of_a_run, no_caps, poll_text, records_of_a_submission, running_with_fates, smallest_caps, stepless_text, lines_of_a_run, whole, read_number, fate, smallest_caps_text, no_caps_text, document_text, object_of, changed, texts, takes, refuses, needs_each, are_below, is_truth, is_text, some_caps, caps_in_fields, some_document, queue_step, queue_in_fields, group_step, fill_text, fill, enqcmd_step, movdir_step, dispatch_step, fetch_step, start_step, finish_step, command_step, poll_step, clear_step, record_ticket, stepped, accepted, record_of_a_fetch};
 
 /// Numbers are whole, without sign, and below the limit of their field; the key stands in an
@@ -229,7 +230,9 @@ pub fn engine_steps()
 pub fn admin_steps()
     ensures command { action_of (object_of command_step) ≡ Some (Ask (Issue (EnableWq 2))) }
     ensures no_command { action_of (changed (codes "word") (whole 0) command_step)
-        ≡ Some (Refuse BadCommand) }
+        ≡ Some (Refuse no_command) }
+    ensures thirty_one { action_of (changed (codes "word") (whole 0x1f00005) command_step)
+        ≡ Some (Refuse (bad_word 0x1f00005)) }
     ensures poll { action_of (object_of poll_step) ≡ Some (Ask Poll) }
     ensures clear { action_of (object_of clear_step) ≡ Some (Ask ClearError) }
     ensures needed { map (needs_each action_of) (command_step ∷ poll_step ∷ clear_step ∷ [])
@@ -394,8 +397,9 @@ pub fn fate_lines()
 #[tactic(auto, unfolding(crate::specs::Worked::digits_on_literals))]
 pub fn lines_in_order()
     ensures none { lines_of_run [] [] ≡ [] }
-    ensures refused { record_text (Refused BadCommand) ≡ codes "refused 13 BadCommand" }
-    ensures records { lines_of_run (accepted (record_ticket 7 0) ∷ Refused BadCommand ∷ []) []
+    ensures refused { record_text (Refused (record { word = 5; fault = Busy }))
+        ≡ codes "refused 17 Busy" }
+    ensures records { lines_of_run (accepted (record_ticket 7 0) ∷ Refused no_command ∷ []) []
         ≡ codes "accepted 0\nrefused 13 BadCommand\n" }
     ensures fates { lines_of_run [] (fate 1 Abandoned ∷ fate 0 (Completed 1) ∷ [])
         ≡ codes "fate 1 - abandoned\nfate 0 - completed 01\n" }
@@ -412,7 +416,7 @@ pub fn tickets()
         ≡ record_ticket 7 12 }
     ensures among_others { ticket_of_name
         (accepted (record_ticket 5 0)
-        ∷ Refused Busy
+        ∷ Refused no_command
         ∷ record_of_a_fetch (record_ticket 6 1)
         ∷ accepted (record_ticket 7 2)
         ∷ [])
@@ -437,9 +441,9 @@ pub fn events()
         ≡ Ok (Finish 1 (record_ticket 7 12) PageFault) }
     ensures finish_unknown { event_of (accepted (record_ticket 7 12) ∷ []) (Finish 1 2 Success)
         ≡ Ok (Finish 1 (record_ticket 0 2) Success) }
-    ensures refuse { event_of [] (Refuse BadCommand) ≡ Err BadCommand }
+    ensures refuse { event_of [] (Refuse (bad_word 7)) ≡ Err (bad_word 7) }
     ensures steps { steps_of_records
-        (Refused Busy ∷ stepped Poll (Poll Nothing) ∷ Refused Busy ∷ [])
+        (Refused no_command ∷ stepped Poll (Poll Nothing) ∷ Refused no_command ∷ [])
         ≡ record { event = Poll; reply = Poll Nothing } ∷ [] }
 {}
 
@@ -454,8 +458,8 @@ pub fn records_of_actions()
         ∷ accepted (record_ticket 6 0)
         ∷ stepped (Finish 0 (record_ticket 5 0) Success) (Finish NotReady)
         ∷ []) }
-    ensures another_second { ¬ AreOf [] (Refuse Busy ∷ Refuse Busy ∷ [])
-        (Refused Busy ∷ Refused BadIndex ∷ []) }
+    ensures another_second { ¬ AreOf [] (Refuse (bad_word 1) ∷ Refuse (bad_word 1) ∷ [])
+        (Refused (bad_word 1) ∷ Refused (bad_word 2) ∷ []) }
 {}
 
 /// A device before its first step.
@@ -479,7 +483,7 @@ pub fn steps_of_a_run()
         ∷ [])
         ∷ [] }
     ensures lines { AreLinesOfSteps
-        (visit 0 (running_at_first smallest_caps 9) (Refused BadCommand)
+        (visit 0 (running_at_first smallest_caps 9) (Refused no_command)
         (running_at_first smallest_caps 9)
         ∷ visit 1 (running_at_first smallest_caps 9) (accepted (record_ticket 7 3))
         (running_at_first smallest_caps 9)

@@ -3,10 +3,9 @@
 ghost use Rattle.std.specs.Prelude.{◌≡◌, ◌++◌, [], ◌∷◌, OnOk, slice_get, filter_map};
 ghost use Rattle.dsa_scenario.specs.Run.{ticket_given_by, ticket_of_name, event_of, answered_by, IsTable, Leads};
 
-use crate::actions::Action;
+use crate::actions::{Action, BadWord};
 use dsa_book::{Event, FetchAnswer, Reply, Step, SubmitAnswer, Ticket};
 use dsa_device::Device;
-use dsa_regs::Fault;
 use dsa_store::{Cell, EntryStore};
 use std::alloc::AllocError;
 
@@ -16,7 +15,7 @@ pub enum Record {
     /// The device was asked and answered.
     Stepped(Step),
     /// The word is no command.
-    Refused(Fault),
+    Refused(BadWord),
 }
 
 #[inline(always)]
@@ -63,7 +62,7 @@ pub fn note_ticket(tickets: &mut Vec<Ticket>, entry: &Record) -> Result<(), Allo
 /// The event that the action asks for, or the refusal of its word. The tickets stand at the places
 /// of their names.
 #[inline(always)]
-pub fn event_for(tickets: &[Ticket], action: Action) -> Result<Event, Fault>
+pub fn event_for(tickets: &[Ticket], action: Action) -> Result<Event, BadWord>
     ensures { (before : _)
         → IsTable (slice_get tickets.now) before
         → result ≡ event_of before action }
@@ -79,13 +78,13 @@ pub fn event_for(tickets: &[Ticket], action: Action) -> Result<Event, Fault>
             ticket: ticket_for(tickets, name),
             outcome,
         }),
-        Action::Refuse(fault) => Err(fault),
+        Action::Refuse(word) => Err(word),
     }
 }
 
 /// Asks the device for the event. The refusal of a word asks nothing of it.
 #[inline(always)]
-pub fn ask<S: EntryStore>(device: &mut Device<S>, asked: &Result<Event, Fault>) -> Record
+pub fn ask<S: EntryStore>(device: &mut Device<S>, asked: &Result<Event, BadWord>) -> Record
     ensures answers { answered_by result ≡ asked.now }
     ensures leads { Leads device.old result device.new }
 {
@@ -94,6 +93,6 @@ pub fn ask<S: EntryStore>(device: &mut Device<S>, asked: &Result<Event, Fault>) 
             let reply = device.step(event);
             Record::Stepped(Step { event, reply })
         }
-        Err(fault) => Record::Refused(fault),
+        Err(word) => Record::Refused(word),
     }
 }

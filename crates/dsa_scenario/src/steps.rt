@@ -2,15 +2,16 @@
 
 ghost use Rattle.std.specs.Prelude.{◌≡◌, ◌≢◌, ◌⊎◌, ◌+◌, ◌++◌, [], ◌∷◌, true, ℕ, List, Result, None, Some, IfErr, IfOk, OnOk, length, map, string_bytes};
 ghost use Rattle.serde_json.specs.View.{view};
-ghost use Rattle.dsa_regs.specs.declared.{Caps.{Caps}, Fault.{Fault}};
+ghost use Rattle.dsa_regs.specs.declared.Caps.{Caps};
 ghost use Rattle.dsa_book.specs.declared.event.Event.{Event};
 ghost use Rattle.dsa_device.specs.Running.{Running};
-ghost use Rattle.dsa_scenario.specs.{declared.actions.Action.{Action}, Actions.{action_of}, Run.{answered_by}};
+ghost use Rattle.dsa_scenario.specs.{declared.actions.{Action.{Action}, BadWord.{BadWord}}, Actions.{action_of}};
+ghost use Rattle.dsa_scenario.specs.Run.{answered_by};
 ghost use Rattle.dsa_scenario.specs.Document.{IsFirstBad, IsFaultOf};
 ghost use Rattle.dsa_scenario.specs.Steps.{Visit, visit, IsWalkTo, IsTextOfDocument};
 ghost use Rattle.dsa_scenario.specs.Streams.{IsPageBehind, IsPageOfRest, BeginWith, HasWalked};
 
-use crate::actions::{Action, parse_action};
+use crate::actions::{Action, BadWord, parse_action};
 use crate::document::{parse_head, parse_json};
 use crate::faults::ScenarioFault;
 use crate::opening::{MakeStore, Run, open_run};
@@ -20,13 +21,12 @@ use crate::sinks::{Kept, Sink};
 use dsa_book::Event;
 use dsa_cells::LinkedStore;
 use dsa_device::Device;
-use dsa_regs::Fault;
 use dsa_store::EntryStore;
 use serde_json::Value;
 use std::alloc::{AllocError, Global};
 
 /// What a step asks of a device, or the refusal of its word.
-pub type Asked = Result<Event, Fault>;
+pub type Asked = Result<Event, BadWord>;
 
 /// What comes of adding to a page, which may want memory.
 pub type Added = Result<(), AllocError>;
@@ -51,7 +51,7 @@ pub trait RenderSteps: Drop {
     type Page: Drop;
 
     // what is told of a device before a step that asks this of it
-    ghost told_before: { Self → Running → Result Event Fault → List ℕ };
+    ghost told_before: { Self → Running → Result Event BadWord → List ℕ };
 
     // the page is made of these steps
     ghost is_page: { Self → List Visit → Self.Page → Type 0 };

@@ -20,7 +20,8 @@ asked_on remaining a b c m n first more = (
 )
 
 -- the reader was asked so often, and no error is noted of it that was not before
-pub record HasRead {R : Type 0} (remaining : R → Option (List ℕ)) (besides : ℕ) (old new : CountedReader R) : Type 0 where
+pub record HasRead {R : Type 0} (remaining : R → Option (List ℕ)) (besides : ℕ)
+    (old new : CountedReader R) : Type 0 where
   pub same : IsSameReader old new
   pub asked : IsAskedFor remaining old new besides
   pub well : has_reader_failed new ≡ has_reader_failed old
@@ -46,7 +47,8 @@ read_then remaining result a b c first more = record {
 }
 
 -- and then it was not asked any more
-pub read_done : {T R : Type 0} (remaining : R → Option (List ℕ)) (result : Result T ScenarioFault) (a b : CountedReader R)
+pub read_done : {T R : Type 0} (remaining : R → Option (List ℕ)) (result : Result T ScenarioFault)
+    (a b : CountedReader R)
     → IfErr result IsLate → IfErr result (λ e. e ≢ Read) → HasRead remaining 1 a b → IsReadFor remaining result a b
 read_done remaining (Ok x) a b late other h = record {
   same = h.same;

@@ -7,9 +7,9 @@ use Rattle.dsa_device.specs.Running.{Running}
 use Rattle.dsa_scenario.specs.declared.actions.Action.{Action}
 use Rattle.dsa_scenario.specs.{Document.{IsOpenable}, Lines.{line_of_text, row_text}}
 use Rattle.dsa_conform.specs.Seen.{Seen}
-use Rattle.dsa_serve.specs.Requests.{Request, step_request, Asks, AreAsked}
+use Rattle.dsa_serve.specs.Requests.{Request, Ready, step_request, Asks, AreAsked}
 use Rattle.dsa_serve.specs.Answers.{IsSessionTo}
-use Rattle.dsa_serve.specs.Input.{IsLine, with_rest, IsFront}
+use Rattle.dsa_serve.specs.Input.{IsLine, with_rest, IsFront, IsUnended}
 use Rattle.dsa_serve.specs.Dialogue.{from_document, IsObservedDocument, IsDialogue, IsDialogueEnded}
 use Rattle.dsa_serve.specs.Dialogue.{AnswersWhole, IsServing}
 use Rattle.dsa_serve.proofs.Asking.{Asks-kept, AreAsked-more}
@@ -18,7 +18,8 @@ use Rattle.dsa_serve.proofs.Lines.{AreLines-rest, AreLines-line}
 -- one request more behind those of a document
 from_document-more : (observed : List (Action × Seen)) (requests : List Request) (request : Request)
     → from_document observed requests ++ request ∷ [] ≡ from_document observed (requests ++ request ∷ [])
-from_document-more observed requests request = append_assoc (map step_request observed) requests (request ∷ [])
+from_document-more observed requests request =
+    append_assoc (map step_request observed) (Ready (length observed) ∷ requests) (request ∷ [])
 
 -- what an answer leaves of a session
 abbrev pub Answered : List ℕ → ℕ → Running → List Ticket → ℕ → List ℕ → ℕ → Running → List Ticket → ℕ → List ℕ
@@ -106,21 +107,22 @@ pub dialogue_of : (first behind output : List ℕ) (number : ℕ) (now : Running
     (kept : List ℕ) → (h : IsServing first behind output number now tickets told kept)
     → IsDialogue first h.lines now.state output
 dialogue_of first behind output number now tickets told kept h =
-    dialogue_by first h.lines output h.caps h.capacity h.observed h.requests number now tickets told h.document h.opening
+    dialogue_by first h.lines output h.caps h.capacity h.observed h.requests number now tickets told h.document
+    h.opening
     h.asked h.session
 
 -- the answers to whole lines
 pub whole_answered : (first behind output : List ℕ) (number : ℕ) (now : Running) (tickets : List Ticket) (told : ℕ)
-    (kept : List ℕ) (ended : Bool) (input : List ℕ) → IsLine first → length first ≤ 2 ^ 20
+    (kept : List ℕ) (ended : Bool) (input : List ℕ) → IsUnended first → length first ≤ 2 ^ 20
     → IsFront ended input first behind
     → IsServing first behind output number now tickets told kept → AnswersWhole ended input output
-whole_answered first behind output number now tickets told kept ended input line short front h = record {
+whole_answered first behind output number now tickets told kept ended input unended short front h = record {
   first = first;
   behind = behind;
   lines = h.lines;
   rest = h.rest;
   last = now.state;
-  split = record { line = line; short = short; front = front };
+  split = record { unended = unended; short = short; front = front };
   lines_are = h.lines_are;
   dialogue = dialogue_of first behind output number now tickets told kept h;
 }
@@ -139,7 +141,8 @@ counted n lines (b ∷ rest) some = refl
 pub ended_whole : (first behind written old new : List ℕ) (number : ℕ) (now : Running) (tickets : List Ticket)
     (told : ℕ) (kept : List ℕ) (rows : List FateRow) → kept ≡ [] → rows ≡ now.state.work.fates
     → new ≡ old ++ flat_map (λ row. line_of_text (row_text row)) rows
-    → IsServing first behind (written ++ old) number now tickets told kept → IsDialogueEnded first behind (written ++ new)
+    → IsServing first behind (written ++ old) number now tickets told kept → IsDialogueEnded first behind
+    (written ++ new)
 ended_whole first behind written old new number now tickets told kept rows none is adds h =
     let blank : h.rest ≡ [] = nothing_kept (2 ^ 20) h.rest (sym h.keeps ∙ none) in
     record {
@@ -161,9 +164,11 @@ ended_whole first behind written old new number now tickets told kept rows none 
 pub ended_rest : (first behind written old mid new : List ℕ) (number : ℕ) (now : Running) (tickets : List Ticket)
     (told : ℕ) (kept seen : List ℕ) (number' : ℕ) (now' : Running) (tickets' : List Ticket) (told' : ℕ)
     (rows : List FateRow) → 0 < length kept
-    → seen ≡ kept → Answered seen number now tickets told old number' now' tickets' told' mid → rows ≡ now'.state.work.fates
+    → seen ≡ kept → Answered seen number now tickets told old number' now' tickets' told' mid
+    → rows ≡ now'.state.work.fates
     → new ≡ mid ++ flat_map (λ row. line_of_text (row_text row)) rows
-    → IsServing first behind (written ++ old) number now tickets told kept → IsDialogueEnded first behind (written ++ new)
+    → IsServing first behind (written ++ old) number now tickets told kept → IsDialogueEnded first behind
+    (written ++ new)
 ended_rest first behind written old mid new number now tickets told kept seen number' now' tickets' told' rows some same
     answers is adds h =
     let it = answers h.caps h.capacity (from_document h.observed h.requests) written h.session in

@@ -27,7 +27,8 @@ first_fault bytes caps capacity steps observed (BadStep i) head read fault = inr
   head = head;
   bad = record {
     done = take i observed;
-    before = sym (take-map observation_of i steps) ∙ ap (take i) read ∙ take-map (λ (o : Action × Seen). Some o) i observed;
+    before = sym (take-map observation_of i steps) ∙ ap (take i) read ∙ take-map
+        (λ (o : Action × Seen). Some o) i observed;
     here = unread_if (slice_get steps i) fault.here;
   };
 })

@@ -2,6 +2,7 @@ pub mod Asking
 pub mod FirstFaults
 pub mod Sessions
 pub mod Lines
+pub mod Ends
 pub mod Courses
 pub mod Stops
 pub mod Counts

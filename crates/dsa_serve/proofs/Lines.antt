@@ -1,5 +1,5 @@
 -- The lines of an input, with more bytes.
-use Rattle.std.proofs.Common.{◌≡◌, ◌≢◌, ◌≤◌, ◌<◌, ◌+◌, ◌-◌, ℕ, false, List, [], ◌∷◌, ◌++◌, length, take}
+use Rattle.std.proofs.Common.{◌≡◌, ◌≢◌, ◌≤◌, ◌<◌, ◌+◌, ◌-◌, ℕ, List, [], ◌∷◌, ◌++◌, length, take}
 use Rattle.std.proofs.Common.{drop, get_or}
 use Rattle.std.proofs.Common.{refl, sym, ap, ◌∙◌, arith, append_assoc, append-nil, flat_map}
 use Rattle.std.proofs.Common.{length-take, length-drop, subst, min, inl, inr}
@@ -7,9 +7,9 @@ use Rattle.std.proofs.Math.Seq.{take-append-add}
 use Rattle.std.proofs.lemmas.{Bool.{eqb-true, cases_lt}, Grind.{flat_map-append}}
 use Rattle.std.proofs.lemmas.List.{take_all, take_min, take_more, get_or-take, take-append-drop, take-append-le}
 use Rattle.std.proofs.lemmas.List.Elements.{All-append, All-from_get_or, All-nil, All-cons}
-use Rattle.memchr.specs.Find.{Nowhere, NoneBefore, Passes, is_byte}
+use Rattle.memchr.specs.Find.{Nowhere, Passes, is_byte}
 use Rattle.dsa_scenario.specs.Lines.{line_of_text}
-use Rattle.dsa_serve.specs.Input.{IsLine, AreLines, IsFront}
+use Rattle.dsa_serve.specs.Input.{IsLine, AreLines}
 
 -- bytes up to a place before which there is no line feed
 pub before_feed : (bytes : List ℕ) (j : ℕ) → j ≤ length bytes → Nowhere (Passes (is_byte 10) bytes) 0 j
@@ -89,18 +89,3 @@ behind_feed bytes done rest j inside feed is =
     sym (take-append-drop (j + 1) rest) ∙ ap (λ l. l ++ after) (through_feed rest j inside feed) in
     rw whole (is ∙ ap (λ l. done ++ l) cut ∙ sym (append_assoc done (take j rest ++ 10 ∷ []) after)
     ∙ ap (λ l. l ++ after) (sym (append_assoc done (take j rest) (10 ∷ []))))
-
--- a first line that ends in a piece, and what comes behind it there
-pub front_cut : (first piece : List ℕ) (at : ℕ)
-    → NoneBefore (Passes (is_byte 10) piece) 0 (length piece) at × Passes (is_byte 10) piece at
-    → IsLine first
-    → IsLine (first ++ take at piece) × IsFront false (first ++ piece) (first ++ take at piece) (drop (at + 1) piece)
-front_cut first piece at found line =
-    let before = before_feed piece at (omega (arith, found.0.high)) found.0.before in
-    let cut : piece ≡ (take at piece ++ 10 ∷ []) ++ drop (at + 1) piece =
-    sym (take-append-drop (at + 1) piece)
-    ∙ ap (λ l. l ++ drop (at + 1) piece) (through_feed piece at found.0.high found.1) in (
-      All-append (λ b. b ≢ 10) first (take at piece) line before,
-      ap (λ l. first ++ l) cut ∙ sym (append_assoc first (take at piece ++ 10 ∷ []) (drop (at + 1) piece))
-          ∙ ap (λ l. l ++ drop (at + 1) piece) (sym (append_assoc first (take at piece) (10 ∷ []))),
-    )

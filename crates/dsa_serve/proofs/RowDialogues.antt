@@ -1,8 +1,8 @@
 -- Documents, lines and dialogues that several worked rows speak of, all of the smallest device.
 use Rattle.dsa_book.specs.declared.event.Event.TheVariants as event
 use Rattle.std.proofs.Common.{◌≡◌, ◌≢◌, ◌≤◌, ◌^◌, ◌∙◌, ℕ, true, false, List, [], ◌∷◌, length, map, codes, refl, ap, sym}
-use Rattle.std.proofs.Common.{arith, lit≤}
-use Rattle.std.specs.Prelude.{Option, Some, None, IsUtf8}
+use Rattle.std.proofs.Common.{arith, lit≤, inl, inr}
+use Rattle.std.specs.{Prelude.{Option, Some, None, IsUtf8}, Fmt.{digits}}
 use Rattle.std.proofs.lemmas.{Option.{same_Some}, List.Elements.{All-nil}}
 use Rattle.serde_json.{specs.{Data.{Data}, Read.{read}}, proofs.OnLiterals.{serde_json_on_literals}}
 use Rattle.dsa_regs.specs.declared.Caps.{Caps}
@@ -13,11 +13,12 @@ use Rattle.dsa_conform.specs.Seen.{Seen, observation_of}
 use Rattle.dsa_scenario.specs.{Run.{AreOf, steps_of_records}, Steps.{Visit, visits}, Worked.{smallest_caps}}
 use Rattle.dsa_device.specs.Running.{Running, running_at_first}
 use Rattle.dsa_scenario.proofs.Heads.{Head, head_by, same_head}
-use Rattle.dsa_serve.specs.declared.requests.LineFault.TheVariants.{NotJson, NoStep, TooLong}
-use Rattle.dsa_serve.specs.Requests.{Request, Step, Explain, Show, Fates, Fault, request_of, IsRead, Asks, AreAsked}
+use Rattle.dsa_serve.specs.Requests.{Request, Step, Explain, Show, Fates, Fault, Ready, IsAskedIn, IsRead, Asks}
+use Rattle.dsa_serve.specs.Requests.{AreAsked}
 use Rattle.dsa_serve.specs.{Requests.{actions_of, observed_of}, Answers.{answers, AreClosest}}
 use Rattle.dsa_serve.specs.{Input.{IsLine, AreLines}, Dialogue.{from_document, IsDialogue, IsObservedDocument}}
 use Rattle.dsa_serve.specs.Worked.{poll_line, explained_poll_line, show_line, line_of_fates, first_line, unseen}
+use Rattle.dsa_serve.specs.Worked.{not_json}
 use Rattle.dsa_serve.proofs.RowLines.{line_by_test}
 
 -- ---- documents
@@ -49,7 +50,8 @@ parts_are text caps capacity observed d found reads has is =
     let parts = same_Some {A = Head} found (caps, capacity, is.head.items) head in (
       ap (λ (h : Head). h.0) parts,
       ap (λ (h : Head). h.1) parts,
-      ap (λ (h : Head). map observation_of (list_of_items h.2)) parts ∙ ap (map observation_of) is.head.listed ∙ is.read,
+      ap (λ (h : Head). map observation_of (list_of_items h.2)) parts ∙ ap (map observation_of) is.head.listed
+          ∙ is.read,
     )
 
 -- what is read as something without a head has none
@@ -89,9 +91,6 @@ opening_is = record { good = refl; small = lit≤ tt }
 
 -- ---- lines
 
-pub bare_line : IsLine (first_line [])
-bare_line = line_by_test (first_line []) refl
-
 pub open_brace : IsLine (codes "{")
 open_brace = line_by_test (codes "{") refl
 
@@ -101,8 +100,9 @@ nothing_behind = record { joined = refl; each = All-nil IsLine; last = All-nil (
 
 -- a line is what it is read as
 pub read_as : (line : List ℕ) (d : Data) (request : Request) → IsUtf8 line → read line ≡ Some d
-    → request_of d ≡ request → IsRead line request
-read_as line d request utf8 reads asks = record { document = d; json = record { utf8 = utf8; value = reads }; asks = asks }
+    → IsAskedIn d request → IsRead line request
+read_as line d request utf8 reads asks = record
+    { document = d; json = record { utf8 = utf8; value = reads }; asks = asks }
 
 pub asks_poll : Asks poll_line (Step (Ask event.Poll) unseen)
 unfolding serde_json_on_literals
@@ -121,9 +121,9 @@ pub asks_fates : Asks line_of_fates Fates
 unfolding serde_json_on_literals
 asks_fates = (lit≤ tt, read_as line_of_fates _ _ (line_of_fates, (refl, refl)) refl refl)
 
-pub asks_no_json : Asks (codes "{") (Fault NotJson)
+pub asks_no_json : Asks (codes "{") not_json
 unfolding serde_json_on_literals
-asks_no_json = (lit≤ tt, λ utf8. refl)
+asks_no_json = inr (inl (lit≤ tt, λ utf8. refl, refl))
 
 -- no lines ask nothing
 pub no_request : (requests : List Request) → AreAsked [] requests → requests ≡ []
@@ -132,17 +132,18 @@ no_request (r ∷ requests) h = absurd h
 
 -- what is no JSON asks nothing else
 asks_nothing : (line : List ℕ) (request : Request) → length line ≤ 2 ^ 20 → read line ≡ None → Asks line request
-    → request ≡ Fault NotJson
-asks_nothing line (Fault TooLong) short none h = absurd (omega (arith, short, h))
-asks_nothing line (Fault NotJson) short none h = refl
-asks_nothing line (Fault NoStep) short none h = let value = h.1.json.value in absurd cc
+    → request ≡ not_json
+asks_nothing line (Fault why) short none (inl h) = absurd (omega (arith, short, h.0))
+asks_nothing line (Fault why) short none (inr (inl h)) = ap Fault h.2
+asks_nothing line (Fault why) short none (inr (inr h)) = let value = h.1.json.value in absurd cc
 asks_nothing line (Step action seen) short none h = let value = h.1.json.value in absurd cc
 asks_nothing line (Explain action seen) short none h = let value = h.1.json.value in absurd cc
 asks_nothing line Show short none h = let value = h.1.json.value in absurd cc
 asks_nothing line Fates short none h = let value = h.1.json.value in absurd cc
+asks_nothing line (Ready count) short none h = let value = h.1.json.value in absurd cc
 
 pub one_fault : (line : List ℕ) (requests : List Request) → length line ≤ 2 ^ 20 → read line ≡ None
-    → AreAsked (line ∷ []) requests → requests ≡ Fault NotJson ∷ []
+    → AreAsked (line ∷ []) requests → requests ≡ not_json ∷ []
 one_fault line [] short none h = absurd h
 one_fault line (r ∷ []) short none h = ap (λ x. x ∷ []) (asks_nothing line r short none h.0)
 one_fault line (r ∷ s ∷ requests) short none h = absurd h.1
@@ -186,5 +187,6 @@ dialogue_by first lines observed requests records document asked of_actions run 
   answered = refl;
 }
 
-pub bare_dialogue : IsDialogue (first_line []) [] (opening smallest_caps) []
+pub bare_dialogue : IsDialogue (first_line []) [] (opening smallest_caps) (codes "ready 0\n")
+unfolding digits
 bare_dialogue = dialogue_by (first_line []) [] [] [] [] bare_document tt tt refl refl tt

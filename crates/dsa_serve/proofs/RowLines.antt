@@ -1,10 +1,11 @@
 -- Lines and what comes between them, for the worked rows. Each lemma speaks of bytes alone.
 use Rattle.std.proofs.Common.{◌≡◌, ◌≢◌, ◌==◌, ℕ, true, false, not, List, [], ◌∷◌, ◌++◌, All, refl, ap, sym, ◌∙◌, arith}
-use Rattle.std.proofs.Common.{length, length-append, append_assoc, flat_map}
+use Rattle.std.proofs.Common.{codes, get_or, length, length-append, append_assoc, flat_map}
 use Rattle.std.specs.List.{list_all}
 use Rattle.std.proofs.Math.Seq.{get_or-append_seam}
 use Rattle.std.proofs.lemmas.List.{Elements.{All-head, All-tail}, Sums.{AllPass-from_list_all}}
 use Rattle.dsa_scenario.specs.Lines.{line_of_text}
+use Rattle.dsa_check.specs.OneStep.{joined_text}
 
 -- bytes without a line feed
 abbrev pub NoFeed : List ℕ → Type 0
@@ -81,3 +82,16 @@ no_lines (l ∷ lines) rest e = absurd (omega (
   length-append (line_of_text l) (flat_map line_of_text lines),
   length-append l (10 ∷ []),
 ))
+
+-- texts that differ in a byte
+pub apart_at : (i a b : ℕ) (text other : List ℕ) → get_or text i 0 ≡ a → get_or other i 0 ≡ b → a ≢ b → text ≢ other
+apart_at i a b text other here there apart same = apart (sym here ∙ ap (λ l. get_or l i 0) same ∙ there)
+
+-- a text is not told as a value that is no step
+pub no_step_apart : (text : List ℕ) (texts : List (List ℕ)) (byte : ℕ) → get_or text 2 0 ≡ byte → byte ≢ 32
+    → text ≢ codes "no step: " ++ joined_text texts
+no_step_apart text texts byte here other = apart_at 2 byte 32 text
+    (codes "no step: " ++ joined_text texts) here refl other
+
+pub json_apart : (texts : List (List ℕ)) → codes "not JSON" ≢ codes "no step: " ++ joined_text texts
+json_apart texts = no_step_apart (codes "not JSON") texts 116 refl (λ same. omega (arith, same))

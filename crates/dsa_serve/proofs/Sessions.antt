@@ -3,9 +3,10 @@ use Rattle.std.proofs.Common.{◌≡◌, ℕ, false, List, [], ◌∷◌, ◌++�
 use Rattle.std.proofs.Common.{append_assoc, append-nil, filter_map, length-append, arith, map, subst}
 use Rattle.std.proofs.lemmas.List.{length-map, map-append, Elements.{filter_map-append}}
 use Rattle.std.specs.Prelude.{slice_get}
-use Rattle.dsa_regs.specs.declared.{Caps.{Caps}, Fault.{Fault as Refusal}}
+use Rattle.dsa_regs.specs.declared.Caps.{Caps}
 use Rattle.dsa_book.specs.declared.{answer.Ticket.{Ticket}, event.Event.{Event}}
 use Rattle.dsa_device.specs.Running.{Running, running_at_first}
+use Rattle.dsa_scenario.specs.declared.actions.BadWord.{BadWord}
 use Rattle.dsa_scenario.specs.declared.{actions.Action.{Action}, run.Record.{Record}}
 use Rattle.dsa_scenario.specs.Lines.{record_text, line_of_text}
 use Rattle.dsa_scenario.specs.Run.{ticket_given_by, event_of, answered_by, IsTable}
@@ -14,9 +15,10 @@ use Rattle.dsa_scenario.proofs.Streams.{with_page}
 use Rattle.dsa_scenario.proofs.Walks.{one_more, opened}
 use Rattle.dsa_explain_lines.specs.Lines.{explanation_of_step}
 use Rattle.dsa_conform.specs.{Seen.{Seen, shows}, Allowed.{IsClosest, NoneShows}}
-use Rattle.dsa_serve.specs.declared.requests.LineFault.{LineFault}
-use Rattle.dsa_serve.specs.Requests.{Request, Step, Explain, Show, Fates, Fault, observed_in, observed_of, actions_of}
-use Rattle.dsa_serve.specs.Answers.{line_fault_text, difference, shown_text, new_fates_text, new_fates, answers, fates_told_after}
+use Rattle.dsa_serve.specs.Requests.{Request, Step, Explain, Show, Fates, Fault, Ready, observed_in, observed_of}
+use Rattle.dsa_serve.specs.Requests.{actions_of}
+use Rattle.dsa_serve.specs.Answers.{refusal_line, ready_text, difference, shown_text, new_fates_text, new_fates, answers}
+use Rattle.dsa_serve.specs.Answers.{fates_told_after}
 use Rattle.dsa_serve.specs.Answers.{AreClosest, after_steps}
 use Rattle.dsa_serve.specs.Answers.{IsPage, IsSessionTo}
 
@@ -36,11 +38,16 @@ module _ (more : List Request) (next : List Visit) where
   answers-more : (now : Running) (told : ℕ) (requests : List Request) (steps : List Visit)
       → length (actions_of requests) ≡ length steps
       → answers now told (requests ++ more) (steps ++ next)
-      ≡ answers now told requests steps ++ answers (after_steps now steps) (fates_told_after now told requests steps) more next
+      ≡ answers now told requests steps ++ answers (after_steps now steps)
+      (fates_told_after now told requests steps) more next
   answers-more now told [] [] h = refl
   answers-more now told [] (v ∷ steps) h = absurd (omega (arith, h))
-  answers-more now told (Fault fault ∷ requests) steps h =
-      let line = line_of_text (line_fault_text fault) in
+  answers-more now told (Fault why ∷ requests) steps h =
+      let line = line_of_text (refusal_line why) in
+      ap (λ l. line ++ l) (answers-more now told requests steps h)
+      ∙ sym (append_assoc line (answers now told requests steps) _)
+  answers-more now told (Ready count ∷ requests) steps h =
+      let line = line_of_text (ready_text count) in
       ap (λ l. line ++ l) (answers-more now told requests steps h)
       ∙ sym (append_assoc line (answers now told requests steps) _)
   answers-more now told (Show ∷ requests) steps h =
@@ -69,7 +76,8 @@ module _ (more : List Request) (next : List Visit) where
       ≡ fates_told_after (after_steps now steps) (fates_told_after now told requests steps) more next
   told-more now told [] [] h = refl
   told-more now told [] (v ∷ steps) h = absurd (omega (arith, h))
-  told-more now told (Fault fault ∷ requests) steps h = told-more now told requests steps h
+  told-more now told (Fault why ∷ requests) steps h = told-more now told requests steps h
+  told-more now told (Ready count ∷ requests) steps h = told-more now told requests steps h
   told-more now told (Show ∷ requests) steps h = told-more now told requests steps h
   told-more now told (Fates ∷ requests) steps h = told-more now (length now.state.work.fates) requests steps h
   told-more now told (Step action seen ∷ requests) [] h = absurd (omega (arith, h))
@@ -105,7 +113,8 @@ AddsAnswer now told request next line told' =
 -- the output and the fates that were told, with a request more
 answered-more : (first now : Running) (told told' : ℕ) (requests : List Request) (request : Request)
     (steps next : List Visit) (output line : List ℕ) → length (actions_of requests) ≡ length steps
-    → after_steps first steps ≡ now → fates_told_after first 0 requests steps ≡ told → AddsAnswer now told request next line told'
+    → after_steps first steps ≡ now → fates_told_after first 0 requests steps ≡ told
+    → AddsAnswer now told request next line told'
     → output ≡ answers first 0 requests steps
     → (output ++ line ≡ answers first 0 (requests ++ request ∷ []) (steps ++ next))
     × (fates_told_after first 0 (requests ++ request ∷ []) (steps ++ next) ≡ told')
@@ -133,7 +142,8 @@ IsPage-step first now told told' requests request o steps step output line is ad
     let count : length (observed_of requests) ≡ length steps =
     sym (length-map (observed_of requests) (λ (o : Action × Seen). o.0)) ∙ h.made.count in
     let stands : after_steps first steps ≡ now = h.now in
-    let more = answered-more first now told told' requests request steps (step ∷ []) output line h.made.count stands h.told
+    let more = answered-more first now told told' requests request steps
+    (step ∷ []) output line h.made.count stands h.told
     adds h.made.answered in
     record {
       made = record {
@@ -150,10 +160,10 @@ IsPage-step first now told told' requests request o steps step output line is ad
     }
 
 -- a session with one request more that is a step
-pub stepped : (told_before : Running → Result Event Refusal → List ℕ) (caps : Caps) (capacity : ℕ)
+pub stepped : (told_before : Running → Result Event BadWord → List ℕ) (caps : Caps) (capacity : ℕ)
     (requests : List Request) (request : Request) (o : Action × Seen) (number : ℕ) (now new : Running)
     (tickets more : List Ticket) (told : ℕ) (written old text line reason : List ℕ) (entry : Record)
-    (asked : Result Event Refusal) → observed_in request ≡ Some o
+    (asked : Result Event BadWord) → observed_in request ≡ Some o
     → ((before : List Record) → IsTable (slice_get tickets) before → asked ≡ event_of before o.0)
     → IsClosest now asked o.1 new entry → more ≡ tickets ++ filter_map ticket_given_by (entry ∷ [])
     → reason ≡ told_before now asked → text ≡ old ++ line
@@ -219,21 +229,32 @@ stepless caps capacity requests request number now tickets told told' written ol
       made = record {
         count = ap length (sym same) ∙ made.count;
         closest = subst (λ l. AreClosest first l steps) asked made.closest;
-        answered = longer ∙ subst (λ s. (written ++ old) ++ line ≡ answers first 0 (requests ++ request ∷ []) s) whole more.0;
+        answered = longer ∙ subst (λ s. (written ++ old) ++ line ≡ answers first 0 (requests ++ request ∷ []) s) whole
+            more.0;
       };
       now = h.made.now;
       told = subst (λ s. fates_told_after first 0 (requests ++ request ∷ []) s ≡ told') whole more.1;
     }))
 
 -- one with a line that asks nothing, with one that asks for the device, and with one that asks for fates
-pub missed : (caps : Caps) (capacity : ℕ) (requests : List Request) (fault : LineFault) (number : ℕ) (now : Running)
+pub missed : (caps : Caps) (capacity : ℕ) (requests : List Request) (why : List ℕ) (number : ℕ) (now : Running)
     (tickets : List Ticket) (told : ℕ) (written old text : List ℕ)
-    → text ≡ old ++ line_of_text (line_fault_text fault)
+    → text ≡ old ++ line_of_text (refusal_line why)
     → IsSessionTo caps capacity requests number now tickets told (written ++ old)
-    → IsSessionTo caps capacity (requests ++ Fault fault ∷ []) number now tickets told (written ++ text)
-missed caps capacity requests fault number now tickets told written old text is h =
-    stepless caps capacity requests (Fault fault) number now tickets told told written old text
-    (line_of_text (line_fault_text fault)) refl (append-nil (line_of_text (line_fault_text fault)), refl) is h
+    → IsSessionTo caps capacity (requests ++ Fault why ∷ []) number now tickets told (written ++ text)
+missed caps capacity requests why number now tickets told written old text is h =
+    stepless caps capacity requests (Fault why) number now tickets told told written old text
+    (line_of_text (refusal_line why)) refl (append-nil (line_of_text (refusal_line why)), refl) is h
+
+-- one whose document was taken
+pub taken : (caps : Caps) (capacity : ℕ) (requests : List Request) (count : ℕ) (number : ℕ) (now : Running)
+    (tickets : List Ticket) (told : ℕ) (written old text : List ℕ)
+    → text ≡ old ++ line_of_text (ready_text count)
+    → IsSessionTo caps capacity requests number now tickets told (written ++ old)
+    → IsSessionTo caps capacity (requests ++ Ready count ∷ []) number now tickets told (written ++ text)
+taken caps capacity requests count number now tickets told written old text is h =
+    stepless caps capacity requests (Ready count) number now tickets told told written old text
+    (line_of_text (ready_text count)) refl (append-nil (line_of_text (ready_text count)), refl) is h
 
 pub shown : (caps : Caps) (capacity : ℕ) (requests : List Request) (number : ℕ) (now : Running)
     (tickets : List Ticket) (told : ℕ) (written old text : List ℕ) → text ≡ old ++ shown_text now

@@ -1,10 +1,9 @@
 -- A dialogue after one read more, and where a fault ends it.
-use Rattle.std.proofs.Common.{◌≡◌, ◌≢◌, ◌⊎◌, ◌<◌, ◌≤◌, ◌+◌, ◌^◌, ℕ, true, false, Bool, List, [], ◌∷◌, ◌++◌}
+use Rattle.std.proofs.Common.{◌≡◌, ◌⊎◌, ◌<◌, ◌≤◌, ◌+◌, ◌^◌, ℕ, true, false, Bool, List, [], ◌∷◌, ◌++◌}
 use Rattle.std.proofs.Common.{Option, length, take, refl, ap, ◌∙◌, arith, Result, Ok, Err, IfErr}
 use Rattle.std.proofs.Common.{append_assoc, append-nil, length-append, length-take, drop, inl, inr}
 use Rattle.std.proofs.{Math.Seq.{take-append-add}}
-use Rattle.std.proofs.lemmas.List.{take-append-drop, Elements.{All-nil}}
-use Rattle.memchr.specs.Find.{NoneBefore, Passes, is_byte}
+use Rattle.std.proofs.lemmas.{List.{take-append-drop}, Option.{slice_get_within}}
 use Rattle.std.specs.Io.KnownBytes.{Consumes, IsAtEnd, Appends, Keeps}
 use Rattle.std.proofs.KnownBytes.{Consumes-nil, Consumes-trans, Consumes-kept, Appends-nil, Appends-trans}
 use Rattle.dsa_book.specs.declared.answer.Ticket.{Ticket}
@@ -15,10 +14,11 @@ use Rattle.dsa_scenario.specs.declared.faults.ScenarioFault.TheVariants.{TooLong
 use Rattle.dsa_scenario.specs.declared.faults.ScenarioFault.TheVariants.{Differs}
 use Rattle.dsa_scenario.specs.declared.faults.ScenarioFault.TheVariants.{BadCaps, BadCapacity}
 use Rattle.dsa_serve.specs.declared.dialogue.Dialogue.{Dialogue}
-use Rattle.dsa_serve.specs.Input.{IsLine, IsFront, HasFirst}
+use Rattle.dsa_serve.specs.declared.ending.Inside.TheVariants.{Brackets}
+use Rattle.dsa_serve.specs.Input.{IsFront, HasFirst, IsUnended, IsEndAt, inside_after}
 use Rattle.dsa_serve.specs.Dialogue.{IsDialogueEnded, AnswersWhole, AnswersAll, IsServing, IsInCourse}
 use Rattle.dsa_serve.specs.Dialogue.{IsFaultOfFirst, IsStoppedWithin, IsStopped}
-use Rattle.dsa_serve.proofs.{Courses.{whole_answered}, Lines.{front_cut}}
+use Rattle.dsa_serve.proofs.{Courses.{whole_answered}, Ends.{front_cut}}
 
 -- a first part and the front of a second are a front of both
 cut_short : (held holds holds' : Option (List ℕ)) (output text : List ℕ) (count : ℕ) → Appends held holds output
@@ -34,7 +34,7 @@ cut_short held holds holds' output text count first less second = (
 front_more : (input first behind bytes : List ℕ) → IsFront false input first behind
     → IsFront false (input ++ bytes) first (behind ++ bytes)
 front_more input first behind bytes front =
-    ap (λ l. l ++ bytes) front ∙ append_assoc (line_of_text first) behind bytes
+    (ap (λ l. l ++ bytes) front.0 ∙ append_assoc (line_of_text first) behind bytes, front.1)
 
 -- so far the dialogue has read these bytes behind the first line, and answered their whole lines
 abbrev Serves : {S : Type 0} → List ℕ → List ℕ → List ℕ → Dialogue S → Type 0
@@ -57,7 +57,7 @@ course_on had left left' held holds holds' bytes text d d' reads writes on h = r
   output = h.output ++ text;
   read = Consumes-trans had left left' h.input bytes h.read reads;
   written = Appends-trans held holds holds' h.output text h.written writes;
-  line = h.line;
+  unended = h.unended;
   short = h.short;
   front = front_more h.input h.first h.behind bytes h.front;
   serving = on h.first h.behind h.output h.serving;
@@ -68,7 +68,7 @@ pub course_answered : {S : Type 0} (ended : Bool) (had left held holds : Option 
     → (h : IsInCourse ended had left held holds d) → AnswersWhole ended h.input h.output
 course_answered ended had left held holds d h =
     whole_answered h.first h.behind h.output d.session.number d.session.device d.session.tickets.items d.session.told
-    d.kept.items ended h.input h.line h.short h.front h.serving
+    d.kept.items ended h.input h.unended h.short h.front h.serving
 
 -- an error of the reader
 pub read_stops : {S : Type 0} (had left left' held holds : Option (List ℕ)) (d : Dialogue S) → Keeps left left'
@@ -131,7 +131,7 @@ write_stops had left left' held holds holds' bytes text count d d' reads less wr
       length h.output + count,
       Consumes-trans had left left' h.input bytes h.read reads,
       inl (whole_answered h.first (h.behind ++ bytes) (h.output ++ text) d'.session.number d'.session.device
-          d'.session.tickets.items d'.session.told d'.kept.items false (h.input ++ bytes) h.line h.short
+          d'.session.tickets.items d'.session.told d'.kept.items false (h.input ++ bytes) h.unended h.short
           (front_more h.input h.first h.behind bytes h.front) (on h.first h.behind h.output h.serving)),
       cut.0,
       cut.1,
@@ -149,7 +149,7 @@ ends_all ended had left held holds text d ends h = record {
   without_feed = ended;
   first = h.first;
   behind = h.behind;
-  split = record { line = h.line; short = h.short; front = h.front };
+  split = record { unended = h.unended; short = h.short; front = h.front };
   ended = ends h.first h.behind h.output h.serving;
 }
 
@@ -199,15 +199,15 @@ ends_blank old text seen d blank same on first behind output h =
 
 -- want of memory before the first line is whole, and after a read more
 pub memory_before : (room : ℕ) (had left held : Option (List ℕ)) (first more : List ℕ)
-    → Consumes had left (first ++ more) → IsLine first → length first ≤ 2 ^ 20 → length more ≤ room
+    → Consumes had left (first ++ more) → IsUnended first → length first ≤ 2 ^ 20 → length more ≤ room
     → IsStoppedWithin room OutOfMemory had left held held
-memory_before room had left held first more reads line short few =
-    (first, more, [], reads, few, inl (inl (line, short, refl)), Appends-nil held)
+memory_before room had left held first more reads unended short few =
+    (first, more, [], reads, few, inl (inl (unended, short, refl)), Appends-nil held)
 
 -- want of memory before anything is read
 pub unread_memory : (had held : Option (List ℕ)) → IsStopped OutOfMemory had had held held
 unread_memory had held =
-    memory_before (2 ^ 16) had had held [] [] (Consumes-nil had) (All-nil (λ byte. byte ≢ 10)) (omega arith) (omega arith)
+    memory_before (2 ^ 16) had had held [] [] (Consumes-nil had) refl (omega arith) (omega arith)
 
 -- what comes behind a first line is less than the last read gave
 behind_few : (room : ℕ) (ended : Bool) (input first behind : List ℕ) → IsFront ended input first behind
@@ -236,52 +236,54 @@ module _ (room : ℕ) (had left held : Option (List ℕ)) (input first behind : 
 -- the same, or want of memory before the first line is judged
 pub opening_stops : (room : ℕ) (had left held : Option (List ℕ)) (input first behind : List ℕ) (ended : Bool)
     (e : ScenarioFault)
-    → Consumes had left input → IsLine first → length first ≤ 2 ^ 20 → IsFront ended input first behind
-    → (ended ≡ false → length behind < room) → (ended ≡ true → IsAtEnd left) → (e ≡ OutOfMemory) ⊎ IsFaultOfFirst first e
+    → Consumes had left input → IsUnended first → length first ≤ 2 ^ 20 → IsFront ended input first behind
+    → (ended ≡ false → length behind < room) → (ended ≡ true → IsAtEnd left) → (e ≡ OutOfMemory)
+    ⊎ IsFaultOfFirst first e
     → IsStoppedWithin room e had left held held
-opening_stops room had left held input first behind false e reads line short front few at_end (inl h) =
-    let split : input ≡ first ++ 10 ∷ behind = front ∙ append_assoc first (10 ∷ []) behind in
-    rw h (memory_before room had left held first (10 ∷ behind) (rw split at reads) line short
+opening_stops room had left held input first behind false e reads unended short front few at_end (inl h) =
+    let split : input ≡ first ++ 10 ∷ behind = front.0 ∙ append_assoc first (10 ∷ []) behind in
+    rw h (memory_before room had left held first (10 ∷ behind) (rw split at reads) unended short
     (let some = few refl in omega (arith, some)))
-opening_stops room had left held input first behind true e reads line short front few at_end (inl h) =
+opening_stops room had left held input first behind true e reads unended short front few at_end (inl h) =
     let all = rw (front.0, ← append-nil first) at reads in
-    rw h (memory_before room had left held first [] all line short (omega arith))
-opening_stops room had left held input first behind ended e reads line short front few at_end (inr h) =
-    fault_stops room had left held input first behind ended reads (record { line = line; short = short; front = front })
+    rw h (memory_before room had left held first [] all unended short (omega arith))
+opening_stops room had left held input first behind ended e reads unended short front few at_end (inr h) =
+    fault_stops room had left held input first behind ended reads
+    (record { unended = unended; short = short; front = front })
     at_end (behind_few room ended input first behind front few) e h
 
 -- an error of the reader, or want of memory, where the first line is not whole
 pub first_read_stops : (room : ℕ) (had left left' held : Option (List ℕ)) (first : List ℕ) (e : ScenarioFault)
-    → Consumes had left first → IsLine first → length first ≤ 2 ^ 20 → Keeps left left'
+    → Consumes had left first → IsUnended first → length first ≤ 2 ^ 20 → Keeps left left'
     → (e ≡ Read) ⊎ (e ≡ OutOfMemory) → IsStoppedWithin room e had left' held held
-first_read_stops room had left left' held first e reads line short keeps (inl h) = rw h (
+first_read_stops room had left left' held first e reads unended short keeps (inl h) = rw h (
   first,
   [],
   Consumes-kept had left left' first reads keeps,
-  inl (line, short, refl),
+  inl (unended, short, refl),
   Appends-nil held,
 )
-first_read_stops room had left left' held first e reads line short keeps (inr h) =
+first_read_stops room had left left' held first e reads unended short keeps (inr h) =
     let kept = Consumes-kept had left left' first reads keeps in
-    rw h (memory_before room had left' held first [] (rw (append-nil first) kept) line short (omega arith))
+    rw h (memory_before room had left' held first [] (rw (append-nil first) kept) unended short (omega arith))
 
 -- want of memory, or more bytes than a line has, where the first line ends
 pub cut_stops : (room : ℕ) (had left held : Option (List ℕ)) (first piece : List ℕ) (at : ℕ) (e : ScenarioFault)
-    → NoneBefore (Passes (is_byte 10) piece) 0 (length piece) at × Passes (is_byte 10) piece at → IsLine first
+    → IsEndAt (inside_after (Brackets 0) first) piece at → IsUnended first
     → length first ≤ 2 ^ 20 → length piece ≤ room → Consumes had left (first ++ piece)
     → (e ≡ OutOfMemory) ⊎ ((e ≡ TooLong) × (2 ^ 20 < length first + at)) → IsStoppedWithin room e had left held held
-cut_stops room had left held first piece at e found line fits few reads (inl h) =
-    rw h (memory_before room had left held first piece reads line fits few)
-cut_stops room had left held first piece at e found line fits few reads (inr h) =
+cut_stops room had left held first piece at e found unended fits few reads (inl h) =
+    rw h (memory_before room had left held first piece reads unended fits few)
+cut_stops room had left held first piece at e found unended fits few reads (inr h) =
     let short = take at piece in
     let whole : (first ++ short) ++ drop at piece ≡ first ++ piece =
     append_assoc first short (drop at piece) ∙ ap (λ l. first ++ l) (take-append-drop at piece) in
-    let inside : at < length piece = found.0.high in
+    let inside : at < length piece = slice_get_within piece at 10 found.2 in
     rw h.0 (
       first ++ short,
       drop at piece,
       rw whole reads,
-      (front_cut first piece at found line).0,
+      (front_cut first piece at unended found).0,
       omega (arith, h.1, length-append first short, length-take at piece, inside),
       omega (
         arith,
@@ -295,26 +297,28 @@ cut_stops room had left held first piece at e found line fits few reads (inr h) 
     )
 
 -- more bytes than a line has before its line feed
-pub long_stops : (room : ℕ) (had left held : Option (List ℕ)) (first : List ℕ) → Consumes had left first → IsLine first
+pub long_stops : (room : ℕ) (had left held : Option (List ℕ)) (first : List ℕ) → Consumes had left first
+    → IsUnended first
     → 2 ^ 20 < length first → length first ≤ 2 ^ 20 + room → IsStoppedWithin room TooLong had left held held
-long_stops room had left held first reads line long few =
-    (first, [], rw (append-nil first) reads, line, long, omega (arith, few), Appends-nil held)
+long_stops room had left held first reads unended long few =
+    (first, [], rw (append-nil first) reads, unended, long, omega (arith, few), Appends-nil held)
 
 -- a write that is refused of the answers to the first line and to the lines that came with it
 pub first_write_stops : (had left held holds : Option (List ℕ)) (ended : Bool) (input first behind text seen : List ℕ)
     (count number : ℕ) (now : Running) (tickets : List Ticket) (told : ℕ) (kept : List ℕ) → Consumes had left input
-    → IsLine first → length first ≤ 2 ^ 20 → IsFront ended input first behind → (ended ≡ true → IsAtEnd left)
+    → IsUnended first → length first ≤ 2 ^ 20 → IsFront ended input first behind → (ended ≡ true → IsAtEnd left)
     → seen ≡ text → IsServing first behind text number now tickets told kept → count < length seen
     → Appends held holds (take count seen) → IsStopped Write had left held holds
-first_write_stops had left held holds false input first behind text seen count number now tickets told kept reads line
+first_write_stops had left held holds false input first behind text seen count number now tickets told kept reads
+    unended
     short front at_end same serving less writes =
     let whole : AnswersWhole false input seen =
-    rw same (whole_answered first behind text number now tickets told kept false input line short front serving) in
+    rw same (whole_answered first behind text number now tickets told kept false input unended short front serving) in
     (input, seen, count, reads, inl whole, less, writes)
-first_write_stops had left held holds true input first behind text seen count number now tickets told kept reads line
+first_write_stops had left held holds true input first behind text seen count number now tickets told kept reads unended
     short front at_end same serving less writes =
     let whole : AnswersWhole true input seen =
-    rw same (whole_answered first behind text number now tickets told kept true input line short front serving) in
+    rw same (whole_answered first behind text number now tickets told kept true input unended short front serving) in
     (input, seen, count, reads, inr (inl (at_end refl, whole)), less, writes)
 
 -- two things that are told of an error

@@ -8,14 +8,15 @@ use Rattle.dsa_scenario.specs.{Lines.{record_text, row_text, line_of_text}, Run.
 use Rattle.dsa_explain_lines.specs.Lines.{explanation_of_step}
 use Rattle.dsa_trace.specs.Columns.{state_object}
 use Rattle.dsa_conform.specs.{Seen.{Seen, shows}, Allowed.{NoneShows}}
-use Rattle.dsa_serve.specs.declared.requests.LineFault.{LineFault, TheVariants.{NotJson, NoStep, TooLong}}
-use Rattle.dsa_serve.specs.Requests.{Request, Step, Explain, Show, Fates, Fault, observed_of, actions_of}
+use Rattle.dsa_serve.specs.Requests.{Request, Step, Explain, Show, Fates, Fault, Ready, observed_of, actions_of}
 
--- the fault of a line (profile)
-abbrev pub line_fault_text : LineFault → List ℕ
-line_fault_text NotJson = codes "fault not JSON"
-line_fault_text NoStep = codes "fault no step"
-line_fault_text TooLong = codes "fault line too long"
+-- why a line asks nothing (profile)
+abbrev pub refusal_line : List ℕ → List ℕ
+refusal_line why = codes "fault " ++ why
+
+-- a document was taken, and its steps, so many, were made (profile)
+abbrev pub ready_text : ℕ → List ℕ
+ready_text count = codes "ready " ++ decimal count
 
 -- the word before an answer that does not show what was seen of it (profile)
 abbrev pub difference : Bool → List ℕ
@@ -39,8 +40,8 @@ new_fates now told = drop told now.state.work.fates
 -- came to in turn; of the others, what shows the device where the steps before have led it (profile)
 abbrev pub answers : Running → ℕ → List Request → List Visit → List ℕ
 answers now told [] steps = []
-answers now told (Fault fault ∷ requests) steps =
-    line_of_text (line_fault_text fault) ++ answers now told requests steps
+answers now told (Fault why ∷ requests) steps = line_of_text (refusal_line why) ++ answers now told requests steps
+answers now told (Ready count ∷ requests) steps = line_of_text (ready_text count) ++ answers now told requests steps
 answers now told (Show ∷ requests) steps = shown_text now ++ answers now told requests steps
 answers now told (Fates ∷ requests) steps =
     new_fates_text (new_fates now told) ++ answers now (length now.state.work.fates) requests steps
@@ -55,7 +56,8 @@ answers now told (Explain action seen ∷ requests) (step ∷ steps) =
 -- how many fates were told when these requests have been answered
 abbrev pub fates_told_after : Running → ℕ → List Request → List Visit → ℕ
 fates_told_after now told [] steps = told
-fates_told_after now told (Fault fault ∷ requests) steps = fates_told_after now told requests steps
+fates_told_after now told (Fault why ∷ requests) steps = fates_told_after now told requests steps
+fates_told_after now told (Ready count ∷ requests) steps = fates_told_after now told requests steps
 fates_told_after now told (Show ∷ requests) steps = fates_told_after now told requests steps
 fates_told_after now told (Fates ∷ requests) steps = fates_told_after now (length now.state.work.fates) requests steps
 fates_told_after now told (Step action seen ∷ requests) [] = told

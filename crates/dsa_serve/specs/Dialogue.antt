@@ -1,5 +1,5 @@
 -- A dialogue: what is answered to an input, and how far that is written.
-use Rattle.std.specs.Prelude.{◌≡◌, ◌⊎◌, ◌≤◌, ◌<◌, ◌+◌, ℕ, ◌^◌, Bool, true, false, List, [], ◌++◌, flat_map}
+use Rattle.std.specs.Prelude.{◌≡◌, ◌⊎◌, ◌≤◌, ◌<◌, ◌+◌, ℕ, ◌^◌, Bool, true, false, List, [], ◌∷◌, ◌++◌, flat_map}
 use Rattle.std.specs.Prelude.{length, map, take, Option, Some}
 use Rattle.serde_json.specs.Data.{Data}
 use Rattle.std.specs.Io.KnownBytes.{Consumes, IsAtEnd, Appends}
@@ -13,9 +13,9 @@ use Rattle.dsa_scenario.specs.{Document.{HasHead, IsOpenable}, Lines.{line_of_te
 use Rattle.dsa_scenario.specs.{Run.{steps_of_records, AreOf}, Steps.{visits}}
 use Rattle.dsa_conform.specs.{Seen.{Seen}, Run.{AreRead, IsUnread, IsOtherFault}}
 use Rattle.dsa_serve.specs.declared.dialogue.Dialogue.{Dialogue}
-use Rattle.dsa_serve.specs.Requests.{Request, step_request, AreAsked, actions_of, observed_of}
+use Rattle.dsa_serve.specs.Requests.{Request, Ready, step_request, AreAsked, actions_of, observed_of}
 use Rattle.dsa_serve.specs.Answers.{answers, AreClosest, IsSessionTo}
-use Rattle.dsa_serve.specs.Input.{IsLine, AreLines, with_rest, IsFront, HasFirst}
+use Rattle.dsa_serve.specs.Input.{AreLines, with_rest, IsFront, HasFirst, IsUnended}
 
 -- the bytes are a JSON value with these caps and this capacity, and its step objects ask this, one each in order, and
 -- say that this was seen (profile)
@@ -30,11 +30,11 @@ abbrev pub IsFaultOfFirst : List ℕ → ScenarioFault → Type 0
 IsFaultOfFirst bytes (BadStep i) = IsUnread bytes i
 IsFaultOfFirst bytes fault = IsOtherFault bytes fault
 
--- the steps of a document, and then what lines ask
+-- the steps of a document, and that it was taken, and then what lines ask (profile)
 abbrev pub from_document : List (Action × Seen) → List Request → List Request
-from_document observed requests = map step_request observed ++ requests
+from_document observed requests = map step_request observed ++ Ready (length observed) ∷ requests
 
--- the first line is a document without a fault, and the output answers its steps and these lines: of those
+-- the first is a document without a fault, and the output answers its steps and these lines: of those
 -- that are steps the records are a run of a new device, which comes to this state, and show what was seen unless
 -- nothing shows it that the device may answer (profile)
 pub record IsDialogue (first : List ℕ) (lines : List (List ℕ)) (last : State) (output : List ℕ) : Type 0 where
@@ -54,8 +54,8 @@ pub record IsDialogue (first : List ℕ) (lines : List (List ℕ)) (last : State
   pub answered : output ≡ answers (running_at_first caps capacity) 0 (from_document observed requests)
       (visits caps capacity [] records)
 
--- the output answers all whole lines of the input, and no more; where the end of the input `ended` the first line,
--- that one alone (profile)
+-- the output answers the document and all whole lines behind it, and no more; where the end of the input `ended` the
+-- document, it alone (profile)
 pub record AnswersWhole (ended : Bool) (input output : List ℕ) : Type 0 where
   pub first : List ℕ
   pub behind : List ℕ
@@ -66,7 +66,7 @@ pub record AnswersWhole (ended : Bool) (input output : List ℕ) : Type 0 where
   pub lines_are : AreLines behind lines rest
   pub dialogue : IsDialogue first lines last output
 
--- the output answers this first line and all lines behind it, and ends with the fates that their run leads to (profile)
+-- the output answers this document and all lines behind it, and ends with the fates that their run leads to (profile)
 pub record IsDialogueEnded (first behind output : List ℕ) : Type 0 where
   pub lines : List (List ℕ)
   pub rest : List ℕ
@@ -84,19 +84,19 @@ pub record AnswersAll (input output : List ℕ) : Type 0 where
   pub split : HasFirst without_feed input first behind
   pub ended : IsDialogueEnded first behind output
 
--- nothing is written before the line feed of the first line, which comes after at most 2^20 bytes, and then what
+-- nothing is written before the line feed that ends the document, which comes after at most 2^20 bytes, and then what
 -- answers the whole lines (profile)
 abbrev pub AnswersSoFar : List ℕ → List ℕ → Type 0
 AnswersSoFar input output =
-    (IsLine input × (length input ≤ 2 ^ 20) × (output ≡ [])) ⊎ AnswersWhole false input output
+    (IsUnended input × (length input ≤ 2 ^ 20) × (output ≡ [])) ⊎ AnswersWhole false input output
 
--- the reader has no more, and the input is a first line without a line feed, which the output answers (profile)
+-- the reader has no more, and the input is a document that its end ended, which the output answers (profile)
 abbrev pub AnswersOnlyLine : Option (List ℕ) → List ℕ → List ℕ → Type 0
 AnswersOnlyLine left input output = IsAtEnd left × AnswersWhole true input output
 
 -- ---- a dialogue in its course
 
--- so far a session that began with this line has read these bytes behind it and answered their whole
+-- so far a session that began with this document has read these bytes behind it and answered their whole
 -- lines; of the rest of a line it keeps as much as shows whether it is too long (profile)
 pub record IsServing (first behind output : List ℕ) (number : ℕ) (now : Running) (tickets : List Ticket) (told : ℕ)
     (kept : List ℕ) : Type 0 where
@@ -114,7 +114,7 @@ pub record IsServing (first behind output : List ℕ) (number : ℕ) (now : Runn
   pub session : IsSessionTo caps capacity (from_document observed requests) number now tickets told output
 
 -- since the reader had these bytes and the writer held those, a session has answered the whole lines of what the
--- reader gave, and the writer has taken the answers; the first line ended with its line feed, or with the input
+-- reader gave, and the writer has taken the answers; the document ended with its line feed, or with the input
 -- (profile)
 pub record IsInCourse {S : Type 0} (ended : Bool) (had left held holds : Option (List ℕ)) (dialogue : Dialogue S)
     : Type 0 where
@@ -124,7 +124,7 @@ pub record IsInCourse {S : Type 0} (ended : Bool) (had left held holds : Option 
   pub output : List ℕ
   pub read : Consumes had left input
   pub written : Appends held holds output
-  pub line : IsLine first
+  pub unended : IsUnended first
   pub short : length first ≤ 2 ^ 20
   pub front : IsFront ended input first behind
   pub serving : IsServing first behind output dialogue.session.number dialogue.session.device
@@ -132,12 +132,12 @@ pub record IsInCourse {S : Type 0} (ended : Bool) (had left held holds : Option 
 
 -- ---- where it stopped
 
--- a fault that comes behind the first line
+-- a fault that comes behind the document
 abbrev pub IsLate : ScenarioFault → Type 0
 IsLate fault = (fault ≡ Read) ⊎ (fault ≡ Write) ⊎ (fault ≡ OutOfMemory)
 
 -- what the reader gave, by the bytes that it had and has left, and what the writer took, by those that it held and
--- holds, where this fault ended a dialogue whose reads give no more bytes than this: no more is read behind a line
+-- holds, where this fault ended a dialogue whose reads give no more bytes than this: no more is read of a document
 -- that is too long, or that begins no dialogue, than the last of these gave (profile)
 abbrev pub IsStoppedWithin : ℕ → ScenarioFault → Option (List ℕ) → Option (List ℕ) → Option (List ℕ)
     → Option (List ℕ) → Type 0
@@ -145,7 +145,7 @@ IsStoppedWithin room Read had left held holds =
     (input : List ℕ) × (output : List ℕ) × Consumes had left input × AnswersSoFar input output
     × Appends held holds output
 IsStoppedWithin room TooLong had left held holds =
-    (first : List ℕ) × (more : List ℕ) × Consumes had left (first ++ more) × IsLine first × (2 ^ 20 < length first)
+    (first : List ℕ) × (more : List ℕ) × Consumes had left (first ++ more) × IsUnended first × (2 ^ 20 < length first)
     × (length first + length more ≤ 2 ^ 20 + room) × Appends held holds []
 IsStoppedWithin room Write had left held holds =
     (input : List ℕ) × (output : List ℕ) × (count : ℕ) × Consumes had left input

@@ -1,22 +1,25 @@
 -- What a line asks.
-use Rattle.std.specs.Prelude.{◌≡◌, ◌≤◌, ◌<◌, ℕ, ◌^◌, List, [], ◌∷◌, length, codes, bytes_eq, if◌then◌else◌, Option}
-use Rattle.std.specs.Prelude.{Some, None, filter_map, map, ⊤}
+use Rattle.dsa_scenario.specs.declared.fields.Form.TheVariants as form
+use Rattle.std.specs.Prelude.{◌≡◌, ◌⊎◌, ◌≤◌, ◌<◌, ℕ, ◌^◌, Bool, true, false, List, [], ◌∷◌, ◌++◌, length, codes}
+use Rattle.std.specs.Prelude.{bytes_eq, if◌then◌else◌, Option, Some, None, filter_map, map, ⊤}
 use Rattle.serde_json.specs.{Data.{Data}, Find.{get}}
 use Rattle.dsa_scenario.specs.declared.actions.Action.{Action}
-use Rattle.dsa_scenario.specs.{Fields.{◌>>=◌, text_of}, Document.{IsJson, IsNoJson}}
+use Rattle.dsa_scenario.specs.{Fields.{◌>>=◌, Row, text_of}, Document.{IsJson, IsNoJson}}
+use Rattle.dsa_check.specs.OneStep.{AreStepTexts, AreKeyTexts, joined_text}
 use Rattle.dsa_conform.specs.Seen.{Seen, seen_as, observation_of}
-use Rattle.dsa_serve.specs.declared.requests.LineFault.{LineFault, TheVariants.{NotJson, NoStep, TooLong}}
 use Rattle.dsa_serve.specs.declared.requests.Line.{Line}
 use Rattle.dsa_serve.specs.declared.requests.Line.TheVariants as line
 
 -- what is asked: to make a step, of which this was seen, or to make and explain one; to show the device; to tell the
--- fates that were not told yet; or nothing (profile)
+-- fates that were not told yet; or nothing, and this text tells why. A document asks last to say that it was taken,
+-- with so many steps (profile)
 pub data Request : Type 0 where
   Step : Action → Seen → Request
   Explain : Action → Seen → Request
   Show : Request
   Fates : Request
-  Fault : LineFault → Request
+  Fault : List ℕ → Request
+  Ready : ℕ → Request
 
 -- the same of a value of the program
 abbrev pub request_as : Line → Request
@@ -24,13 +27,18 @@ request_as (line.Step action seen) = Step action (seen_as seen)
 request_as (line.Explain action seen) = Explain action (seen_as seen)
 request_as line.Show = Show
 request_as line.Fates = Fates
-request_as (line.Fault fault) = Fault fault
 
--- the object at `step`, where `do` says `explain` (profile)
+abbrev pub is_word : List ℕ → Option (List ℕ) → Bool
+is_word word None = false
+is_word word (Some text) = bytes_eq text word
+
+-- the word at `do` is `explain` (profile)
+abbrev pub is_explanation : Data → Bool
+is_explanation d = is_word (codes "explain") (text_of (codes "do") d)
+
+-- the object at `step` that is to be explained (profile)
 abbrev pub object_within : Data → Option Data
-object_within d = do
-  kind ← text_of (codes "do") d
-  if bytes_eq kind (codes "explain") then get (codes "step") d else None
+object_within d = if is_explanation d then get (codes "step") d else None
 
 -- what the step object asks that is to be explained, and what was seen of it (profile)
 abbrev pub explained_of : Data → Option (Action × Seen)
@@ -43,30 +51,63 @@ abbrev pub step_request : Action × Seen → Request
 step_request observed = Step observed.0 observed.1
 
 -- what this word at `do` asks by itself (profile)
-abbrev pub request_of_word : List ℕ → Request
+abbrev pub request_of_word : List ℕ → Option Request
 request_of_word word =
-    if bytes_eq word (codes "show") then Show else if bytes_eq word (codes "fates") then Fates else Fault NoStep
+    if bytes_eq word (codes "show") then Some Show else if bytes_eq word (codes "fates") then Some Fates else None
 
-abbrev pub request_by : Option (Action × Seen) → Option (Action × Seen) → Option (List ℕ) → Request
-request_by (Some observed) within word = step_request observed
-request_by None (Some observed) word = Explain observed.0 observed.1
+abbrev pub request_by : Option (Action × Seen) → Option (Action × Seen) → Option (List ℕ) → Option Request
+request_by (Some observed) within word = Some (step_request observed)
+request_by None (Some observed) word = Some (Explain observed.0 observed.1)
 request_by None None (Some word) = request_of_word word
-request_by None None None = Fault NoStep
+request_by None None None = None
 
--- what a JSON value asks: a step, or the explanation of one, or what its word asks (profile)
-abbrev pub request_of : Data → Request
+-- what a JSON value asks, if anything: a step, or the explanation of one, or what its word asks (profile)
+abbrev pub request_of : Data → Option Request
 request_of d = request_by (observation_of d) (explained_of d) (text_of (codes "do") d)
+
+-- ---- why a value asks nothing (profile)
+
+-- an explanation has the object that is to be explained
+abbrev pub explanation_rows : List Row
+explanation_rows = (codes "step", form.Object) ∷ []
+
+-- of an explanation: what is wrong with the object at `step`, or that there is none
+abbrev pub AreTextsWithin : Data → Option Data → List (List ℕ) → Type 0
+AreTextsWithin d None texts = AreKeyTexts d explanation_rows texts
+AreTextsWithin d (Some step) texts = AreStepTexts step texts
+
+-- of any value: what is wrong with the object that it is, or that it asks to explain
+abbrev pub AreTextsOf : Data → Bool → List (List ℕ) → Type 0
+AreTextsOf d true texts = AreTextsWithin d (get (codes "step") d) texts
+AreTextsOf d false texts = AreStepTexts d texts
+
+abbrev pub TellsNoStep : Data → List ℕ → Type 0
+TellsNoStep d text =
+    (texts : List (List ℕ)) × AreTextsOf d (is_explanation d) texts × (text ≡ codes "no step: " ++ joined_text texts)
+
+-- ---- lines
+
+-- a JSON value asks this, or it asks nothing, and the text tells why (profile)
+abbrev pub IsAskedIn : Data → Request → Type 0
+IsAskedIn d (Fault text) = (request_of d ≡ None) × TellsNoStep d text
+IsAskedIn d request = request_of d ≡ Some request
 
 -- the line is a JSON value that asks this
 pub record IsRead (line : List ℕ) (request : Request) : Type 0 where
   pub document : Data
   pub json : IsJson line document
-  pub asks : request_of document ≡ request
+  pub asks : IsAskedIn document request
 
--- what a line asks, or which fault it has (profile)
+-- the text tells why the line asks nothing: it is too long, or no JSON text, or its value asks nothing (profile)
+abbrev pub TellsFault : List ℕ → List ℕ → Type 0
+TellsFault line text =
+    ((2 ^ 20 < length line) × (text ≡ codes "line too long"))
+    ⊎ ((length line ≤ 2 ^ 20) × IsNoJson line × (text ≡ codes "not JSON"))
+    ⊎ ((length line ≤ 2 ^ 20) × IsRead line (Fault text))
+
+-- what a line asks, or why it asks nothing (profile)
 abbrev pub Asks : List ℕ → Request → Type 0
-Asks line (Fault TooLong) = 2 ^ 20 < length line
-Asks line (Fault NotJson) = (length line ≤ 2 ^ 20) × IsNoJson line
+Asks line (Fault text) = TellsFault line text
 Asks line request = (length line ≤ 2 ^ 20) × IsRead line request
 
 -- each line asks its request
@@ -82,7 +123,8 @@ observed_in (Step action seen) = Some (action, seen)
 observed_in (Explain action seen) = Some (action, seen)
 observed_in Show = None
 observed_in Fates = None
-observed_in (Fault fault) = None
+observed_in (Fault text) = None
+observed_in (Ready count) = None
 
 abbrev pub observed_of : List Request → List (Action × Seen)
 observed_of requests = filter_map observed_in requests

@@ -3,14 +3,14 @@ use Rattle.dsa_book.specs.declared.answer.Reply.TheVariants as reply
 use Rattle.dsa_book.specs.declared.event.Event.TheVariants as event
 use Rattle.std.specs.Prelude.{ℕ, List, [], ◌∷◌, ◌++◌, codes, Some, None}
 use Rattle.serde_json.specs.Data.{Data}
-use Rattle.dsa_regs.specs.declared.Fault.TheVariants.{BadCommand}
-use Rattle.dsa_book.specs.declared.{answer.PollAnswer.TheVariants.{Nothing}, fate.Fate.TheVariants.{Abandoned, Completed}}
+use Rattle.dsa_book.specs.declared.answer.PollAnswer.TheVariants.{Nothing}
+use Rattle.dsa_book.specs.declared.fate.Fate.TheVariants.{Abandoned, Completed}
+use Rattle.dsa_scenario.specs.Worked.{no_command}
 use Rattle.dsa_scenario.specs.declared.actions.Action.TheVariants.{Ask, Refuse}
 use Rattle.dsa_scenario.specs.declared.run.Record.{Record, TheVariants.{Refused}}
 use Rattle.dsa_device.specs.Running.{Running}
 use Rattle.dsa_scenario.specs.Worked.{object_of, step_of_kind, stepped, smallest_caps_text, document_text}
 use Rattle.dsa_scenario.specs.Worked.{fate, running_with_fates}
-use Rattle.dsa_serve.specs.declared.requests.LineFault.TheVariants.{NotJson, NoStep}
 use Rattle.dsa_conform.specs.Seen.{Seen}
 use Rattle.dsa_serve.specs.Requests.{Request, Step, Explain, Fault}
 
@@ -25,11 +25,15 @@ unseen = record { answer = None; zf = None }
 abbrev pub seen : List ℕ → Seen
 seen text = record { answer = Some text; zf = None }
 
+-- what asks nothing, since it is no JSON text
+abbrev pub not_json : Request
+not_json = Fault (codes "not JSON")
+
 -- five lines, two of them with a fault
 abbrev pub requests_of_a_dialogue : List Request
 requests_of_a_dialogue =
-    Step (Refuse BadCommand) unseen ∷ Fault NotJson ∷ Step (Ask event.Poll) (seen (codes "nothing"))
-    ∷ Explain (Ask event.Poll) unseen ∷ Fault NoStep ∷ []
+    Step (Refuse no_command) unseen ∷ not_json ∷ Step (Ask event.Poll) (seen (codes "nothing"))
+    ∷ Explain (Ask event.Poll) unseen ∷ Fault (codes "no step: \"do\" is missing") ∷ []
 
 -- a poll of a device without an active command
 abbrev pub polled_record : Record
@@ -39,11 +43,12 @@ abbrev pub records_of_two_polls : List Record
 records_of_two_polls = polled_record ∷ polled_record ∷ []
 
 abbrev pub records_of_a_dialogue : List Record
-records_of_a_dialogue = Refused BadCommand ∷ records_of_two_polls
+records_of_a_dialogue = Refused no_command ∷ records_of_two_polls
 
 abbrev pub lines_of_a_dialogue : List ℕ
 lines_of_a_dialogue =
-    codes "refused 13 BadCommand\nfault not JSON\nnothing\n2 poll -> nothing: no command is active\nfault no step\n"
+    codes "refused 13 BadCommand\nfault not JSON\nnothing\n2 poll -> nothing: no command is active\n"
+    ++ codes "fault no step: \"do\" is missing\n"
 
 -- a line that asks for a poll, and one that asks for its explanation
 abbrev pub poll_line : List ℕ
@@ -73,7 +78,7 @@ with_two_fates = running_with_fates (fate 3 (Completed 1) ∷ fate 0 Abandoned �
 -- the line of a new device that is the smallest
 abbrev pub new_device_line : List ℕ
 new_device_line =
-    codes "{\"phase\":\"off\",\"queues\":["
+    codes "{\"phase\":\"off\",\"error\":null,\"queues\":["
     ++ codes "{\"queue\":0,\"occupancy\":0,\"threshold\":0,\"size\":0,\"phase\":\"off\",\"waiting\":[]}],"
     ++ codes "\"engines\":[{\"engine\":0,\"in_progress\":0,\"slots\":1,\"members\":0,"
     ++ codes "\"names\":[],\"member_names\":[],\"batch\":null}],"

@@ -1,28 +1,29 @@
-//! The first line of an input.
+//! The document at the head of an input.
 
-ghost use Rattle.std.specs.Prelude.{◌≡◌, ◌⊎◌, ◌<◌, ◌≤◌, ◌+◌, ◌++◌, true, false, ℕ, List, Option, length, take, drop, vec_len, IfOk, IfErr, IsErrOf};
+ghost use Rattle.std.specs.Prelude.{◌≡◌, ◌⊎◌, ◌<◌, ◌≤◌, ◌+◌, ◌++◌, true, false, ℕ, List, Option};
+ghost use Rattle.std.specs.Prelude.{length, take, drop, vec_len, IfOk, IfErr, IsErrOf};
 ghost use Rattle.std.specs.Io.KnownBytes.{Consumes, IsAtEnd};
 ghost use Rattle.dsa_scenario.specs.declared.faults.ScenarioFault.{ScenarioFault};
-ghost use Rattle.dsa_serve.specs.Input.{IsLine, IsFront};
+ghost use Rattle.dsa_serve.specs.Input.{IsFront, IsUnended};
 ghost use Rattle.dsa_serve.specs.Dialogue.{IsStoppedWithin};
 ghost use Rattle.dsa_scenario.specs.Counted.{counted_remaining, last_given, IsAskedFor, IsReadFor};
 
+use crate::ending::{Inside, end_in};
 use crate::requests::MAX_LINE;
 use dsa_scenario::{CountedReader, ScenarioFault};
-use memchr::memchr;
 use std::alloc::Global;
 use std::io::Read;
 
-/// The first line, and what was read behind it.
+/// The document, without the line feed that ended it, and what was read behind that.
 #[derive(Drop)]
 pub struct Front {
     pub first: Vec<u8>,
     pub behind: Vec<u8>,
-    /// The input ended before a line feed came.
+    /// The input ended before a line feed did that.
     pub ended: bool,
 }
 
-// The first line, which ends at this place of the piece, and the rest of the piece.
+// The document, which ends at this place of the piece, and the rest of the piece.
 fn cut(alloc: Global, mut first: Vec<u8>, piece: &[u8], at: usize) -> Result<Front, ScenarioFault>
     requires { at < length piece.now }
     ensures first { IfOk result (λ front. front.first.items ≡ first.items ++ take at piece.now) }
@@ -45,7 +46,8 @@ fn cut(alloc: Global, mut first: Vec<u8>, piece: &[u8], at: usize) -> Result<Fro
     })
 }
 
-/// Reads the first line, by as many reads as it takes: its line feed comes with the last of them.
+/// Reads the document, by as many reads as it takes: the line feed that ends it comes with the last
+/// of them.
 pub fn read_first<R: Read>(
     alloc: Global,
     reader: &mut CountedReader<'_, R>,
@@ -63,7 +65,7 @@ pub fn read_first<R: Read>(
         (λ front. (input : List ℕ)
         × Consumes (counted_remaining R.remaining reader.old)
         (counted_remaining R.remaining reader.new) input
-        × IsLine front.first.items
+        × IsUnended front.first.items
         × IsFront front.ended input front.first.items front.behind.items) }
     ensures end { IfOk result
         (λ front. front.ended ≡ true → IsAtEnd (counted_remaining R.remaining reader.new)) }
@@ -78,6 +80,7 @@ pub fn read_first<R: Read>(
         (counted_remaining R.remaining reader.new) held held) }
 {
     let mut first = Vec::new(alloc);
+    let mut inside = Inside::Brackets(0);
     'reads: while first.len() <= MAX_LINE {
         let count = reader.read_once(chunk)?;
         if count == 0 {
@@ -88,7 +91,7 @@ pub fn read_first<R: Read>(
             });
         }
         let piece = &chunk[..count];
-        if let Some(at) = memchr(b'\n', piece) {
+        if let Some(at) = end_in(&mut inside, piece) {
             return Ok(cut(alloc, first, piece, at)?);
         }
         first.extend_from_slice(piece)?;

@@ -1,10 +1,10 @@
-//! A dialogue: a document in the first line, and a request a line behind it, each answered before
-//! more is read.
+//! A dialogue: a document, and a request a line behind it, each answered before more is read.
 //!
 //! `docs/COMMANDS.md` describes lines and answers.
 #![tactic(auto)]
 
 mod dialogue;
+mod ending;
 mod front;
 mod opening;
 mod requests;
@@ -13,8 +13,9 @@ mod serving;
 mod session;
 
 pub use dialogue::Dialogue;
+pub use ending::Inside;
 pub use front::{Front, read_first};
 pub use opening::begin;
-pub use requests::{Line, LineFault, MAX_LINE, parse_line};
+pub use requests::{Line, MAX_LINE, no_step, parse_line};
 pub use serving::{serve_counted, serve_watched};
 pub use session::Session;

@@ -1,13 +1,15 @@
-//! The first line of a dialogue: a document, whose steps are run and answered.
+//! The document that a dialogue begins with, whose steps are run and answered.
 
-ghost use Rattle.std.specs.Prelude.{◌≡◌, ◌⊎◌, [], ℕ, List, map, IfOk, IfErr, OnOk, string_bytes};
+ghost use Rattle.std.specs.Prelude.{◌≡◌, ◌⊎◌, ◌++◌, [], ℕ, List, map, IfOk, IfErr, OnOk};
+ghost use Rattle.std.specs.Prelude.{string_bytes};
 ghost use Rattle.dsa_scenario.specs.declared.faults.ScenarioFault.{ScenarioFault};
 ghost use Rattle.dsa_regs.specs.declared.Caps.{Caps};
 ghost use Rattle.dsa_scenario.specs.declared.actions.Action.{Action};
 ghost use Rattle.serde_json.specs.View.{view};
 ghost use Rattle.dsa_conform.specs.{Seen.{Seen}, Run.{AreAllRead, AreRead}};
 ghost use Rattle.dsa_serve.specs.Requests.{step_request};
-ghost use Rattle.dsa_serve.specs.Answers.{IsSessionTo};
+ghost use Rattle.dsa_scenario.specs.Lines.{line_of_text};
+ghost use Rattle.dsa_serve.specs.Answers.{ready_text, IsSessionTo};
 ghost use Rattle.dsa_serve.specs.Dialogue.{IsFaultOfFirst, IsServing};
 
 use crate::dialogue::Dialogue;
@@ -18,6 +20,7 @@ use dsa_conform::{first_unread, parse_step};
 use dsa_scenario::{Run, ScenarioFault, open_run, parse_head, parse_json};
 use serde_json::Value;
 use std::alloc::{AllocError, Global};
+use std::fmt::Write;
 
 // Makes the steps of a document, each by an answer that shows what was seen if one may.
 fn make_steps(
@@ -43,6 +46,14 @@ fn make_steps(
         session.step(alloc, text, action, &seen)?;
     }
     Ok(())
+}
+
+// Adds that a document was taken, and how many steps it had.
+fn add_ready(text: &mut String, count: usize) -> Result<(), AllocError>
+    ensures { OnOk result
+        (string_bytes text.new ≡ string_bytes text.old ++ line_of_text (ready_text count)) }
+{
+    writeln!(text, "ready {count}")
 }
 
 // A session of the document in these bytes, with the answers to its steps.
@@ -73,11 +84,12 @@ fn open_session(
         told: 0,
     };
     make_steps(alloc, &mut session, text, head.steps)?;
+    add_ready(text, head.steps.len())?;
     Ok(session)
 }
 
-/// A dialogue of the document in the first line, with the answers to its steps and to the whole
-/// lines behind it.
+/// A dialogue of the document at its head, with the answers to its steps and to the whole lines
+/// behind it.
 pub fn begin(
     alloc: Global,
     text: &mut String,

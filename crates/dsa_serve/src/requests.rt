@@ -1,28 +1,24 @@
 //! What a line asks.
 
-ghost use Rattle.std.specs.Prelude.{◌≡◌, codes, option_map};
+ghost use Rattle.std.specs.Prelude.{◌≡◌, codes, map, option_map, true, IfOk, string_bytes};
 ghost use Rattle.serde_json.specs.View.{view};
 ghost use Rattle.dsa_conform.specs.Seen.{seen_as};
 ghost use Rattle.dsa_scenario.specs.Fields.{text_of};
-ghost use Rattle.dsa_serve.specs.Requests.{explained_of, request_as, request_of, request_of_word};
+ghost use Rattle.dsa_check.specs.Lines.{reason_text};
+ghost use Rattle.dsa_serve.specs.Requests.{explained_of, is_explanation, request_as, request_of};
+ghost use Rattle.dsa_serve.specs.Requests.{request_of_word, AreTextsOf, TellsNoStep};
 
+use dsa_check::{Reason, add_joined, reasons_of_keys, reasons_of_step};
 use dsa_conform::{Observed, parse_step};
-use dsa_scenario::Action;
+use dsa_scenario::{Action, Field, Form, table_of};
 use serde_json::Value;
+use std::alloc::{AllocError, Global};
 
 /// The most bytes that a line has, without its line feed (profile).
 pub const MAX_LINE: usize = 1_048_576;
 
-/// Why a line asks nothing (profile).
-#[derive(Clone, Copy, Debug, PartialEq, Eq)]
-pub enum LineFault {
-    /// The bytes are no JSON text.
-    NotJson,
-    /// The JSON value is no step object, no `explain` around one, no `show` and no `fates`.
-    NoStep,
-    /// The line has more than [`MAX_LINE`] bytes.
-    TooLong,
-}
+/// The key of an explanation beside its word.
+const EXPLANATION: [Field; 1] = table_of!("step": Form::Object);
 
 /// What a line asks.
 #[derive(Clone, Copy, Debug, PartialEq, Eq)]
@@ -35,19 +31,6 @@ pub enum Line<'v> {
     Show,
     /// To tell the fates that were not told yet.
     Fates,
-    /// Nothing.
-    Fault(LineFault),
-}
-
-// What the step object inside `explain` asks, and what it says was seen.
-fn parse_explained(value: &Value) -> Option<(Action, Observed<'_>)>
-    ensures { option_map (λ o. (o.0, seen_as o.1)) result ≡ explained_of (view value.now) }
-{
-    let kind = value.get("do")?.as_str()?;
-    if kind != "explain" {
-        return None;
-    }
-    parse_step(value.get("step")?)
 }
 
 // The word at `do`.
@@ -57,29 +40,74 @@ fn word_of(value: &Value) -> Option<&str>
     value.get("do")?.as_str()
 }
 
-// What this word asks by itself.
-fn parse_word(word: &str) -> Line<'_>
-    ensures { request_as result ≡ request_of_word word.now }
+// Whether that word asks for an explanation.
+fn is_explanation(value: &Value) -> bool
+    ensures { result ≡ is_explanation (view value.now) }
 {
-    match word {
-        "show" => Line::Show,
-        "fates" => Line::Fates,
-        _ => Line::Fault(LineFault::NoStep),
+    match word_of(value) {
+        Some(word) => word == "explain",
+        None => false,
     }
 }
 
-/// What a JSON value asks.
-pub fn parse_line(value: &Value) -> Line<'_>
-    ensures { request_as result ≡ request_of (view value.now) }
+// What the step object inside `explain` asks, and what it says was seen.
+fn parse_explained(value: &Value) -> Option<(Action, Observed<'_>)>
+    ensures { option_map (λ o. (o.0, seen_as o.1)) result ≡ explained_of (view value.now) }
+{
+    if !is_explanation(value) {
+        return None;
+    }
+    parse_step(value.get("step")?)
+}
+
+// What this word asks by itself.
+fn parse_word(word: &str) -> Option<Line<'_>>
+    ensures { option_map request_as result ≡ request_of_word word.now }
+{
+    match word {
+        "show" => Some(Line::Show),
+        "fates" => Some(Line::Fates),
+        _ => None,
+    }
+}
+
+/// What a JSON value asks, if anything.
+pub fn parse_line(value: &Value) -> Option<Line<'_>>
+    ensures { option_map request_as result ≡ request_of (view value.now) }
 {
     if let Some((action, seen)) = parse_step(value) {
-        return Line::Step(action, seen);
+        return Some(Line::Step(action, seen));
     }
     if let Some((action, seen)) = parse_explained(value) {
-        return Line::Explain(action, seen);
+        return Some(Line::Explain(action, seen));
     }
     match word_of(value) {
         Some(word) => parse_word(word),
-        None => Line::Fault(LineFault::NoStep),
+        None => None,
     }
+}
+
+// What is wrong with a value that asks nothing, or with the object that it asks to explain.
+fn reasons_of(alloc: Global, value: &Value) -> Result<Vec<Reason>, AllocError>
+    ensures { IfOk result
+        (λ reasons. AreTextsOf (view value.now) (is_explanation (view value.now))
+        (map reason_text reasons.items)) }
+{
+    if !is_explanation(value) {
+        return reasons_of_step(alloc, value);
+    }
+    match value.get("step") {
+        Some(step) => reasons_of_step(alloc, step),
+        None => reasons_of_keys(alloc, value, &EXPLANATION),
+    }
+}
+
+/// Why a value asks nothing.
+pub fn no_step(alloc: Global, value: &Value) -> Result<String, AllocError>
+    ensures { IfOk result (λ why. TellsNoStep (view value.now) (string_bytes why)) }
+{
+    let mut why = String::from_str(alloc, "no step: ")?;
+    let reasons = reasons_of(alloc, value)?;
+    add_joined(&mut why, reasons.as_slice())?;
+    Ok(why)
 }

@@ -1,11 +1,14 @@
 //! Lines in, answers out.
 
-ghost use Rattle.std.specs.Prelude.{◌≡◌, ◌≢◌, ◌⊎◌, ◌<◌, ◌≤◌, ◌+◌, ◌^◌, true, false, ℕ, Bool, List, Option, Ok, length, OnOk, IfOk, IfErr};
+ghost use Rattle.std.specs.Prelude.{◌≡◌, ◌≢◌, ◌⊎◌, ◌<◌, ◌≤◌, ◌+◌, ◌^◌, true, false, ℕ, Bool, List};
+ghost use Rattle.std.specs.Prelude.{Option, Ok, length, OnOk, IfOk, IfErr};
 ghost use Rattle.std.specs.Io.KnownBytes.{Consumes, IsAtEnd, Appends};
 ghost use Rattle.dsa_scenario.specs.declared.faults.ScenarioFault.{ScenarioFault};
-ghost use Rattle.dsa_scenario.specs.Counted.{counted_remaining, asked_of, given_of, IsAskedFor, IsReadFor};
+ghost use Rattle.dsa_scenario.specs.Counted.{counted_remaining, asked_of, given_of, IsAskedFor};
+ghost use Rattle.dsa_scenario.specs.Counted.{IsReadFor};
 ghost use Rattle.dsa_scenario.specs.Watched.{watched_contents, IsWrittenFor};
-ghost use Rattle.dsa_serve.specs.Dialogue.{AnswersAll, GoesOn, IsInCourse, IsLate, IsStoppedOn, IsStoppedWithin, IsStopped};
+ghost use Rattle.dsa_serve.specs.Dialogue.{AnswersAll, GoesOn, IsInCourse, IsLate, IsStoppedOn};
+ghost use Rattle.dsa_serve.specs.Dialogue.{IsStoppedWithin, IsStopped};
 
 use crate::dialogue::Dialogue;
 use crate::front::read_first;
@@ -19,14 +22,14 @@ use std::io::{Read, Write};
 /// The most bytes that a read gives.
 const CHUNK: usize = 65_536;
 
-/// A dialogue whose first line is read, and whether the input ended with it.
+/// A dialogue whose document is read, and whether the input ended with it.
 #[derive(Drop)]
 struct Started {
     dialogue: Dialogue<LinkedStore>,
     ended: bool,
 }
 
-// Reads the first line, and writes the answers to the steps of its document.
+// Reads the document, and writes the answers to its steps.
 fn start<R: Read, W: Write>(
     alloc: Global,
     reader: &mut CountedReader<'_, R>,
@@ -159,7 +162,7 @@ fn finish<S: EntryStore, W: Write>(
     write_text(writer, text.as_bytes())
 }
 
-/// Reads a document in the first line and a request in each further one, and answers each line.
+/// Reads a document and a request in each further line, and answers each line.
 ///
 /// All whole lines that a read gave are answered, and the answers written, before the next read. A
 /// line that asks nothing is answered with its fault, and changes nothing. At the end of input come
@@ -200,7 +203,7 @@ pub fn serve_counted<R: Read, W: Write>(
     finish(alloc, &mut it.dialogue, writer)
 }
 
-/// Reads a document in the first line and a request in each further one, and answers each line.
+/// Reads a document and a request in each further line, and answers each line.
 ///
 /// All of it is the work of [`serve_counted`], which is lent the reader as one that is counted.
 pub fn serve_watched<R: Read, W: Write>(

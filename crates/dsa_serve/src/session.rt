@@ -1,14 +1,16 @@
 //! A session: a device, and an answer to each line.
 
-ghost use Rattle.std.specs.Prelude.{◌≡◌, ◌≤◌, ◌^◌, ◌++◌, ◌+◌, [], ◌∷◌, ℕ, List, IfOk, OnOk, OnErr, string_bytes};
+ghost use Rattle.std.specs.Prelude.{◌≡◌, ◌≤◌, ◌^◌, ◌++◌, ◌+◌, [], ◌∷◌, ℕ, List, IfOk, OnOk, OnErr};
+ghost use Rattle.std.specs.Prelude.{string_bytes};
 ghost use Rattle.dsa_regs.specs.declared.Caps.{Caps};
 ghost use Rattle.dsa_scenario.specs.Lines.{line_of_text};
 ghost use Rattle.serde_json.specs.View.{view};
 ghost use Rattle.dsa_conform.specs.Seen.{seen_as};
-ghost use Rattle.dsa_serve.specs.Requests.{Request, Step, Explain, Fates, request_of, Asks};
-ghost use Rattle.dsa_serve.specs.Answers.{difference, line_fault_text, shown_text, new_fates_text, IsSessionTo};
+ghost use Rattle.dsa_serve.specs.Requests.{Request, Step, Explain, Fates, Asks, IsAskedIn};
+ghost use Rattle.dsa_serve.specs.Answers.{difference, refusal_line, shown_text, new_fates_text};
+ghost use Rattle.dsa_serve.specs.Answers.{IsSessionTo};
 
-use crate::requests::{Line, LineFault, MAX_LINE, parse_line};
+use crate::requests::{Line, MAX_LINE, no_step, parse_line};
 use dsa_book::{FateRow, Ticket};
 use dsa_conform::{Closest, Observed, follow_closest};
 use dsa_device::Device;
@@ -40,16 +42,12 @@ fn next(number: usize) -> Result<usize, AllocError>
     number.checked_add(1).ok_or(AllocError)
 }
 
-// Adds the fault of a line.
-fn add_fault(text: &mut String, fault: LineFault) -> Result<(), AllocError>
+// Adds why a line asks nothing.
+fn add_fault(text: &mut String, why: &str) -> Result<(), AllocError>
     ensures { OnOk result
-        (string_bytes text.new ≡ string_bytes text.old ++ line_of_text (line_fault_text fault)) }
+        (string_bytes text.new ≡ string_bytes text.old ++ line_of_text (refusal_line why.now)) }
 {
-    text.push_str(match fault {
-        LineFault::NotJson => "fault not JSON\n",
-        LineFault::NoStep => "fault no step\n",
-        LineFault::TooLong => "fault line too long\n",
-    })
+    writeln!(text, "fault {why}")
 }
 
 // Adds the word before an answer that does not show what was seen of it.
@@ -165,16 +163,21 @@ impl<S: EntryStore> Session<S> {
             ((caps : Caps) (capacity : ℕ) (requests : List Request) (written : List ℕ)
             → IsSessionTo caps capacity requests self.old.number self.old.device
             self.old.tickets.items self.old.told (written ++ string_bytes text.old)
-            → IsSessionTo caps capacity (requests ++ request_of (view value.now) ∷ [])
-            self.new.number self.new.device self.new.tickets.items self.new.told
+            → (request : Request)
+            × IsAskedIn (view value.now) request
+            × IsSessionTo caps capacity (requests ++ request ∷ []) self.new.number
+            self.new.device self.new.tickets.items self.new.told
             (written ++ string_bytes text.new)) }
     {
         match parse_line(value) {
-            Line::Step(action, seen) => self.step(alloc, text, action, &seen),
-            Line::Explain(action, seen) => self.explain(alloc, text, action, &seen),
-            Line::Show => add_shown(text, &self.device),
-            Line::Fates => self.tell_fates(text),
-            Line::Fault(fault) => add_fault(text, fault),
+            Some(Line::Step(action, seen)) => self.step(alloc, text, action, &seen),
+            Some(Line::Explain(action, seen)) => self.explain(alloc, text, action, &seen),
+            Some(Line::Show) => add_shown(text, &self.device),
+            Some(Line::Fates) => self.tell_fates(text),
+            None => {
+                let why = no_step(alloc, value)?;
+                add_fault(text, why.as_str())
+            }
         }
     }
 
@@ -197,11 +200,11 @@ impl<S: EntryStore> Session<S> {
             (written ++ string_bytes text.new)) }
     {
         if line.len() > MAX_LINE {
-            return add_fault(text, LineFault::TooLong);
+            return add_fault(text, "line too long");
         }
         match parse_json(alloc, line) {
             Ok(value) => self.answer_value(alloc, text, &value),
-            Err(ScenarioFault::NotJson) => add_fault(text, LineFault::NotJson),
+            Err(ScenarioFault::NotJson) => add_fault(text, "not JSON"),
             Err(_) => Err(AllocError),
         }
     }

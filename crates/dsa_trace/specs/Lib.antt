@@ -1,6 +1,9 @@
 pub mod Marks
 pub mod Names
 pub mod Notes
+pub mod Errors
+pub mod Results
+pub mod Ended
 pub mod Columns
 pub mod Held
 pub mod Lines

@@ -1,26 +1,32 @@
 -- What stands before the parts of a line, in each form (profile).
-use Rattle.std.specs.Prelude.{ℕ, ◌==◌, if◌then◌else◌, List, [], codes}
-use Rattle.dsa_trace.specs.declared.form.{Trace.{Trace, TheVariants.{Table, Json}}, Part.{Part}}
+use Rattle.std.specs.Prelude.{ℕ, ◌==◌, ◌-◌, if◌then◌else◌, Bool, true, false, List, [], codes, decimal, length}
+use Rattle.std.specs.Prelude.{replicate}
+use Rattle.dsa_trace.specs.declared.form.{Trace.{Trace, TheVariants.{Json}}, Part.{Part}}
 use Rattle.dsa_trace.specs.declared.form.Items.TheVariants.{Queues, Engines, Groups}
 use Rattle.dsa_trace.specs.declared.form.Part.TheVariants.{Step, Event, Answer, Items, NoCommand}
 use Rattle.dsa_trace.specs.declared.form.Part.TheVariants.{Active, Awaited, LineEnd, Queue, Occupancy}
 use Rattle.dsa_trace.specs.declared.form.Part.TheVariants.{Threshold, Size, Engine, InProgress, Slots, Members, Group}
 use Rattle.dsa_trace.specs.declared.form.Part.TheVariants.{Used, Allowed, Held, InList, HeldEnd}
-use Rattle.dsa_trace.specs.declared.form.Part.TheVariants.{DevicePhase, QueuePhase, PhaseEnd, Reserved}
+use Rattle.dsa_trace.specs.declared.form.Part.TheVariants.{DevicePhase, QueuePhase, TextEnd, Reserved}
 use Rattle.dsa_trace.specs.declared.form.Part.TheVariants.{AnswerEnd, StateStart, ObjectEnd}
 use Rattle.dsa_trace.specs.declared.form.Part.TheVariants.{Waiting, Names, MemberNames, NamesEnd}
-use Rattle.dsa_trace.specs.declared.form.Part.TheVariants.{NoBatch, Batch}
+use Rattle.dsa_trace.specs.declared.form.Part.TheVariants.{NoBatch, Batch, NoError, Error, Result, Fates, FatesEnd}
 
--- before a part of a row of the table, and before the same part of a JSON object
+-- before a part of a row, and before the same part of a JSON object
 abbrev pub marks : Part → List ℕ × List ℕ
 marks Step = ([], codes "{\"step\":")
-marks Event = (codes " ", codes ",\"event\":\"")
+marks Event = (codes " | ", codes ",\"event\":\"")
 marks Answer = (codes " -> ", codes "\",\"answer\":\"")
 marks AnswerEnd = ([], codes "\",")
+marks Result = ([], codes "\"result\":{\"kind\":\"")
+marks Fates = ([], codes "},\"fates\":[")
+marks FatesEnd = ([], codes "],")
 marks StateStart = ([], codes "{")
 marks ObjectEnd = ([], codes "}")
 marks DevicePhase = ([], codes "\"phase\":\"")
-marks (Items Queues) = (codes " |", codes "\",\"queues\":[")
+marks NoError = ([], codes "\",\"error\":null")
+marks Error = ([], codes "\",\"error\":{")
+marks (Items Queues) = (codes " |", codes ",\"queues\":[")
 marks (Items Engines) = (codes " |", codes "],\"engines\":[")
 marks (Items Groups) = (codes " |", codes "],\"groups\":[")
 marks NoCommand = ([], codes "],\"active\":null")
@@ -32,7 +38,7 @@ marks Occupancy = (codes " ", codes ",\"occupancy\":")
 marks Threshold = (codes "/", codes ",\"threshold\":")
 marks Size = (codes "/", codes ",\"size\":")
 marks QueuePhase = ([], codes ",\"phase\":\"")
-marks PhaseEnd = ([], codes "\"")
+marks TextEnd = ([], codes "\"")
 marks Waiting = ([], codes ",\"waiting\":[")
 marks Engine = (codes " e", codes "{\"engine\":")
 marks InProgress = (codes " ", codes ",\"in_progress\":")
@@ -51,11 +57,20 @@ marks Held = (codes "held ", codes "{\"held\":")
 marks InList = (codes " in ", codes ",\"list\":\"")
 marks HeldEnd = (codes "\n", codes "\"}\n")
 
+abbrev pub is_json : Trace → Bool
+is_json Json = true
+is_json _ = false
+
 abbrev pub mark : Trace → Part → List ℕ
-mark Table part = (marks part).0
 mark Json part = (marks part).1
+mark _ part = (marks part).0
 
 -- between the items of a JSON array
 abbrev pub comma : Trace → ℕ → List ℕ
-comma Table place = []
 comma Json place = if place == 0 then [] else codes ","
+comma _ place = []
+
+-- as many spaces before a number of a row as it has digits fewer than the greatest one
+abbrev pub pad : Trace → ℕ → ℕ → List ℕ
+pad Json n most = []
+pad _ n most = replicate (length (decimal most) - length (decimal n)) 32

@@ -1,15 +1,18 @@
 //! What a line shows of a device.
 
-ghost use Rattle.std.specs.Prelude.{◌≡◌, ◌<◌};
+ghost use Rattle.std.specs.Prelude.{◌≡◌, ◌<◌, ◌^◌, IsTrue};
+ghost use Rattle.dsa_regs.specs.Caps.{check_caps};
 ghost use Rattle.dsa_event_text.specs.Added.{Adds};
-ghost use Rattle.dsa_trace.specs.Columns.{command_text, engine_text, group_text, is_left_out};
+ghost use Rattle.dsa_trace.specs.Columns.{row_columns, command_column, command_text, engine_text};
+ghost use Rattle.dsa_trace.specs.Columns.{group_text, is_left_out, is_unplaced, is_unused};
 ghost use Rattle.dsa_trace.specs.Columns.{item_count, item_text, items_text};
 ghost use Rattle.dsa_trace.specs.Columns.{limits_text, phase_text, queue_phase, queue_text};
 ghost use Rattle.dsa_trace.specs.Columns.{reserved_text};
 ghost use Rattle.dsa_trace.specs.Columns.{state_members, state_object, threshold_text};
 ghost use Rattle.dsa_trace.specs.Columns.{waiting_text, work_text};
 
-use crate::form::{Items, Part, Trace, add_comma, add_mark, add_marked};
+use crate::errors::add_error;
+use crate::form::{Items, Part, Trace, add_aligned, add_comma, add_mark, add_marked};
 use crate::names::add_names;
 use crate::notes::add_batch;
 use dsa_book::BatchNote;
@@ -23,7 +26,25 @@ fn is_left_out(form: Trace, config: &QueueConfig) -> bool
 {
     match form {
         Trace::Table => config.size == 0,
-        Trace::Json => false,
+        Trace::Wide | Trace::Json => false,
+    }
+}
+
+fn is_unplaced(form: Trace, group: Option<u16>) -> bool
+    ensures { result ≡ is_unplaced form group }
+{
+    match form {
+        Trace::Table => group.is_none(),
+        Trace::Wide | Trace::Json => false,
+    }
+}
+
+fn is_unused(form: Trace, config: &GroupConfig) -> bool
+    ensures { result ≡ is_unused form config.now }
+{
+    match form {
+        Trace::Table => config.queues == 0 && config.engines == 0,
+        Trace::Wide | Trace::Json => false,
     }
 }
 
@@ -48,7 +69,7 @@ fn add_phase(text: &mut String, form: Trace, part: Part, phase: Phase) -> Added
     ensures { Adds result text.old text.new (phase_text form part phase) }
 {
     match form {
-        Trace::Table => Ok(()),
+        Trace::Table | Trace::Wide => Ok(()),
         Trace::Json => {
             add_mark(text, form, part)?;
             text.push_str(phase_word(phase))
@@ -61,7 +82,7 @@ fn add_queue_phase(text: &mut String, form: Trace, phase: Phase) -> Added
     ensures { Adds result text.old text.new (queue_phase form phase) }
 {
     add_phase(text, form, Part::QueuePhase, phase)?;
-    add_mark(text, form, Part::PhaseEnd)
+    add_mark(text, form, Part::TextEnd)
 }
 
 fn add_queue(
@@ -79,26 +100,42 @@ fn add_queue(
     }
     add_comma(text, form, queue)?;
     add_marked(text, form, Part::Queue, u32::from(queue))?;
-    add_marked(text, form, Part::Occupancy, u32::from(waiting))?;
+    add_aligned(
+        text,
+        form,
+        Part::Occupancy,
+        u32::from(waiting),
+        u32::from(config.size),
+    )?;
     add_limits(text, form, config)?;
     add_queue_phase(text, form, phase)
+}
+
+// The most members that a batch has.
+fn most_members(caps: &Caps) -> u32
+    requires { IsTrue (check_caps caps.now) }
+    ensures { result ≡ 2 ^ caps.now.max_batch_shift }
+{
+    1 << caps.max_batch_shift
 }
 
 fn add_engine(
     text: &mut String,
     form: Trace,
+    caps: &Caps,
     engine: u16,
     taken: u32,
-    slots: u16,
     left: u32,
 ) -> Added
-    ensures { Adds result text.old text.new (engine_text form engine taken slots left) }
+    requires { IsTrue (check_caps caps.now) }
+    ensures { Adds result text.old text.new (engine_text form caps.now engine taken left) }
 {
+    let slots = u32::from(caps.slots);
     add_comma(text, form, engine)?;
     add_marked(text, form, Part::Engine, u32::from(engine))?;
-    add_marked(text, form, Part::InProgress, taken)?;
-    add_marked(text, form, Part::Slots, u32::from(slots))?;
-    add_marked(text, form, Part::Members, left)
+    add_aligned(text, form, Part::InProgress, taken, slots)?;
+    add_marked(text, form, Part::Slots, slots)?;
+    add_aligned(text, form, Part::Members, left, most_members(caps))
 }
 
 // The names of the entries that wait in a queue, and the end of its column.
@@ -129,7 +166,7 @@ fn add_reserved(text: &mut String, form: Trace, reserved: u16) -> Added
     ensures { Adds result text.old text.new (reserved_text form reserved) }
 {
     match form {
-        Trace::Table => Ok(()),
+        Trace::Table | Trace::Wide => Ok(()),
         Trace::Json => add_marked(text, form, Part::Reserved, u32::from(reserved)),
     }
 }
@@ -137,10 +174,14 @@ fn add_reserved(text: &mut String, form: Trace, reserved: u16) -> Added
 fn add_group(text: &mut String, form: Trace, group: u16, taken: u16, config: &GroupConfig) -> Added
     ensures { Adds result text.old text.new (group_text form group taken config.now) }
 {
+    if is_unused(form, config) {
+        return Ok(());
+    }
+    let (taken, allowed) = (u32::from(taken), u32::from(config.allowed));
     add_comma(text, form, group)?;
     add_marked(text, form, Part::Group, u32::from(group))?;
-    add_marked(text, form, Part::Used, u32::from(taken))?;
-    add_marked(text, form, Part::Allowed, u32::from(config.allowed))?;
+    add_aligned(text, form, Part::Used, taken, allowed)?;
+    add_marked(text, form, Part::Allowed, allowed)?;
     add_reserved(text, form, config.reserved)?;
     add_mark(text, form, Part::ObjectEnd)
 }
@@ -196,7 +237,12 @@ fn add_item<S: EntryStore>(
             device.members(place),
         ) {
             (Some(taken), Some(left), Some(entries), Some(members)) => {
-                add_engine(text, form, place, taken, device.caps().slots, left)?;
+                if is_unplaced(form, device.group_of(place)) {
+                    return Ok(());
+                }
+                device.state_is_replay();
+                let caps = device.caps();
+                add_engine(text, form, &caps, place, taken, left)?;
                 add_work(text, form, entries, members, device.batch(place))
             }
             _ => unreachable!(),
@@ -234,20 +280,41 @@ fn add_items<S: EntryStore>(
     Ok(())
 }
 
-/// Adds what is told of the device as it stands: the columns of a row, or the members of an object.
+/// Adds the columns of a row: the queues, the engines and the groups.
+pub fn add_columns<S: EntryStore>(text: &mut String, form: Trace, device: &Device<S>) -> Added
+    ensures { Adds result text.old text.new
+        (row_columns form device.now.caps device.now.state) }
+{
+    add_items(text, form, device, Items::Queues)?;
+    add_items(text, form, device, Items::Engines)?;
+    add_items(text, form, device, Items::Groups)
+}
+
+/// Adds the active command, where there is one.
+pub fn add_command_column<S: EntryStore>(
+    text: &mut String,
+    form: Trace,
+    device: &Device<S>,
+) -> Added
+    ensures { Adds result text.old text.new (command_column form device.now.state) }
+{
+    add_active(text, form, device.active(), device.awaited())
+}
+
+/// Adds what is told of the device as it stands: the members of an object.
 pub fn add_state_members<S: EntryStore>(text: &mut String, form: Trace, device: &Device<S>) -> Added
     ensures { Adds result text.old text.new
         (state_members form device.now.caps device.now.state) }
 {
     add_phase(text, form, Part::DevicePhase, device.phase())?;
-    add_items(text, form, device, Items::Queues)?;
-    add_items(text, form, device, Items::Engines)?;
-    add_items(text, form, device, Items::Groups)?;
-    add_active(text, form, device.active(), device.awaited())
+    add_error(text, form, device.noted())?;
+    add_columns(text, form, device)?;
+    add_command_column(text, form, device)
 }
 
 /// Adds the JSON object of the device as it stands, which has the members that the trace shows of
-/// it after a step: `{"phase":"on","queues":[..],"engines":[..],"groups":[..],"active":null}`.
+/// it after a step: `{"phase":"on","error":null,"queues":[..],"engines":[..],"groups":[..],` and
+/// `"active":null}`.
 pub fn add_state<S: EntryStore>(text: &mut String, device: &Device<S>) -> Added
     ensures { Adds result text.old text.new (state_object device.now.caps device.now.state) }
 {

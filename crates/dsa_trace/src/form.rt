@@ -1,17 +1,20 @@
-//! The two forms of a trace, and what stands before the parts of their lines.
+//! The forms of a trace, and what stands before the parts of their lines.
 
-ghost use Rattle.std.specs.Prelude.{◌≡◌};
+ghost use Rattle.std.specs.Prelude.{◌≡◌, decimal, length, replicate};
 ghost use Rattle.dsa_event_text.specs.Added.{Adds};
-ghost use Rattle.dsa_trace.specs.Columns.{marked};
-ghost use Rattle.dsa_trace.specs.Marks.{comma, mark, marks};
+ghost use Rattle.dsa_trace.specs.Columns.{aligned, marked};
+ghost use Rattle.dsa_trace.specs.Marks.{comma, is_json, mark, marks, pad};
 
 use dsa_event_text::{Added, add_number};
+use itoa::Buffer;
 
 /// The form of a trace (profile).
 #[derive(Clone, Copy, Debug, PartialEq, Eq)]
 pub enum Trace {
-    /// A row of a table for each step.
+    /// A row of a table for each step, with what is configured.
     Table,
+    /// Such a row with all queues, engines and groups.
+    Wide,
     /// A JSON object for each step, in a line of its own.
     Json,
 }
@@ -31,9 +34,14 @@ pub enum Part {
     Event,
     Answer,
     AnswerEnd,
+    Result,
+    Fates,
+    FatesEnd,
     StateStart,
     ObjectEnd,
     DevicePhase,
+    NoError,
+    Error,
     Items(Items),
     NoCommand,
     Active,
@@ -44,7 +52,7 @@ pub enum Part {
     Threshold,
     Size,
     QueuePhase,
-    PhaseEnd,
+    TextEnd,
     Waiting,
     Engine,
     InProgress,
@@ -64,7 +72,7 @@ pub enum Part {
     HeldEnd,
 }
 
-// The text before this part, in a table row and in a JSON object.
+// The text before this part, in a row and in a JSON object.
 #[inline(always)]
 fn marks(part: Part) -> (&'static str, &'static str)
     ensures table { result.0.now ≡ (marks part).0 }
@@ -72,13 +80,18 @@ fn marks(part: Part) -> (&'static str, &'static str)
 {
     match part {
         Part::Step => ("", "{\"step\":"),
-        Part::Event => (" ", ",\"event\":\""),
+        Part::Event => (" | ", ",\"event\":\""),
         Part::Answer => (" -> ", "\",\"answer\":\""),
         Part::AnswerEnd => ("", "\","),
+        Part::Result => ("", "\"result\":{\"kind\":\""),
+        Part::Fates => ("", "},\"fates\":["),
+        Part::FatesEnd => ("", "],"),
         Part::StateStart => ("", "{"),
         Part::ObjectEnd => ("", "}"),
         Part::DevicePhase => ("", "\"phase\":\""),
-        Part::Items(Items::Queues) => (" |", "\",\"queues\":["),
+        Part::NoError => ("", "\",\"error\":null"),
+        Part::Error => ("", "\",\"error\":{"),
+        Part::Items(Items::Queues) => (" |", ",\"queues\":["),
         Part::Items(Items::Engines) => (" |", "],\"engines\":["),
         Part::Items(Items::Groups) => (" |", "],\"groups\":["),
         Part::NoCommand => ("", "],\"active\":null"),
@@ -90,7 +103,7 @@ fn marks(part: Part) -> (&'static str, &'static str)
         Part::Threshold => ("/", ",\"threshold\":"),
         Part::Size => ("/", ",\"size\":"),
         Part::QueuePhase => ("", ",\"phase\":\""),
-        Part::PhaseEnd => ("", "\""),
+        Part::TextEnd => ("", "\""),
         Part::Waiting => ("", ",\"waiting\":["),
         Part::Engine => (" e", "{\"engine\":"),
         Part::InProgress => (" ", ",\"in_progress\":"),
@@ -112,14 +125,24 @@ fn marks(part: Part) -> (&'static str, &'static str)
 }
 
 impl Trace {
+    /// Whether lines are JSON objects.
+    pub fn is_json(self) -> bool
+        ensures { result ≡ is_json self }
+    {
+        match self {
+            Trace::Json => true,
+            Trace::Table | Trace::Wide => false,
+        }
+    }
+
     /// What stands before the part, or in its place.
     #[inline(always)]
     pub fn mark(self, part: Part) -> &'static str
         ensures { result.now ≡ mark self part }
     {
-        let (table, json) = marks(part);
+        let (row, json) = marks(part);
         match self {
-            Trace::Table => table,
+            Trace::Table | Trace::Wide => row,
             Trace::Json => json,
         }
     }
@@ -139,6 +162,45 @@ pub fn add_marked(text: &mut String, form: Trace, part: Part, number: u32) -> Ad
     ensures { Adds result text.old text.new (marked form part number) }
 {
     add_number(text, form.mark(part), number)
+}
+
+// How many digits a number has.
+fn digit_count(number: u64) -> usize
+    ensures { result ≡ length (decimal number) }
+{
+    let mut buffer = Buffer::new();
+    buffer.format(number).len()
+}
+
+fn add_spaces(text: &mut String, count: usize) -> Added
+    ensures { Adds result text.old text.new (replicate count 32) }
+{
+    for _ in 0..count {
+        text.push_str(" ")?;
+    }
+    Ok(())
+}
+
+/// Adds what makes a number in a row as wide as the greatest one.
+pub fn add_pad(text: &mut String, form: Trace, number: u64, most: u64) -> Added
+    ensures { Adds result text.old text.new (pad form number most) }
+{
+    match form {
+        Trace::Json => Ok(()),
+        Trace::Table | Trace::Wide => add_spaces(
+            text,
+            digit_count(most).saturating_sub(digit_count(number)),
+        ),
+    }
+}
+
+/// Adds a number behind the mark of its part, in a row as wide as the greatest one.
+pub fn add_aligned(text: &mut String, form: Trace, part: Part, number: u32, most: u32) -> Added
+    ensures { Adds result text.old text.new (aligned form part number most) }
+{
+    add_mark(text, form, part)?;
+    add_pad(text, form, u64::from(number), u64::from(most))?;
+    add_number(text, "", number)
 }
 
 /// Adds what stands between the items of an array, before the item at this place.

@@ -7,12 +7,15 @@
 #![tactic(auto)]
 
 mod columns;
+mod ended;
+mod errors;
 mod form;
 mod held;
 mod lines;
 mod names;
 mod notes;
 mod rendering;
+mod results;
 
 pub use columns::{add_state, add_state_members};
 pub use form::Trace;

@@ -1,10 +1,12 @@
-//! The names of entries in an array.
+//! The names of entries, in an array and in a row.
 
+ghost use Rattle.std.specs.Prelude.{flat_map};
 ghost use Rattle.dsa_event_text.specs.Added.{Adds};
-ghost use Rattle.dsa_trace.specs.Names.{names_part, entry_names_text};
+ghost use Rattle.dsa_trace.specs.Names.{entry_names_text, further_name, list_names, names_part};
 
 use crate::form::{Part, Trace, add_mark};
-use dsa_event_text::{Added, add_number};
+use dsa_event_text::{Added, add_list, add_number};
+use dsa_regs::ListUse;
 use dsa_store::{EntryStore, Walk};
 
 fn add_each<S: EntryStore>(text: &mut String, entries: Walk<'_, S>) -> Added
@@ -28,11 +30,40 @@ pub fn add_names<S: EntryStore>(
     ensures { Adds result text.old text.new (names_part form part entries.entry) }
 {
     match form {
-        Trace::Table => Ok(()),
+        Trace::Table | Trace::Wide => Ok(()),
         Trace::Json => {
             add_mark(text, form, part)?;
             add_each(text, entries)?;
             add_mark(text, form, Part::NamesEnd)
         }
     }
+}
+
+// The names, each behind a comma.
+fn add_further<S: EntryStore>(text: &mut String, entries: Walk<'_, S>) -> Added
+    ensures { Adds result text.old text.new (flat_map further_name entries.entry) }
+{
+    for (_cell, entry) in entries {
+        add_number(text, ",", entry.name)?;
+    }
+    Ok(())
+}
+
+/// Adds a list with the names of the entries that it has, behind a bar, where it has any.
+pub fn add_list_names<S: EntryStore>(
+    text: &mut String,
+    list: ListUse,
+    entries: Walk<'_, S>,
+) -> Added
+    ensures { Adds result text.old text.new (list_names list entries.entry) }
+{
+    let mut rest = entries;
+    let Some((_cell, first)) = rest.next() else {
+        return Ok(());
+    };
+    text.push_str(" | ")?;
+    add_list(text, list)?;
+    add_number(text, " [", first.name)?;
+    add_further(text, rest)?;
+    text.push_str("]")
 }

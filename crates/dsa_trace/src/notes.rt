@@ -8,8 +8,8 @@ use crate::form::{Part, Trace, add_mark};
 use dsa_book::BatchNote;
 use dsa_event_text::{Added, add_number, truth_text};
 
-// A truth value behind the text before it.
-fn add_flag(text: &mut String, before: &str, flag: bool) -> Added
+/// Adds a truth value behind the text before it.
+pub fn add_flag(text: &mut String, before: &str, flag: bool) -> Added
     ensures { Adds result text.old text.new (before.now ++ truth_text flag) }
 {
     text.push_str(before)?;
@@ -31,7 +31,7 @@ pub fn add_batch(text: &mut String, form: Trace, note: Option<BatchNote>) -> Add
     ensures { Adds result text.old text.new (batch_part form note) }
 {
     match (form, note) {
-        (Trace::Table, _) => Ok(()),
+        (Trace::Table | Trace::Wide, _) => Ok(()),
         (Trace::Json, None) => add_mark(text, form, Part::NoBatch),
         (Trace::Json, Some(note)) => {
             add_mark(text, form, Part::Batch)?;

@@ -38,7 +38,7 @@ impl RenderSteps for Trace {
     }
 
     fn add_step<S: EntryStore>(&self, page: &mut String, step: &StepMade<'_, S>) -> Added {
-        add_step(page, *self, step.number, step.entry, step.device)
+        add_step(page, *self, step)
     }
 
     fn finish<S: EntryStore>(&self, _alloc: Global, page: String, device: &Device<S>) -> MadeText {

@@ -7,8 +7,12 @@ use Rattle.dsa_regs.specs.declared.Phase.TheVariants.{Off, On, Stopping}
 use Rattle.dsa_regs.specs.{Config.{zero_queue, zero_group}, Worked.{caps}}
 use Rattle.dsa_store.specs.Content.{HeldEntry}
 use Rattle.dsa_book.specs.{declared.answer.DispatchAnswer.TheVariants.{Taken}, State.{opening}}
+use Rattle.dsa_book.specs.declared.answer.Cause.TheVariants.{AtLimit}
 use Rattle.dsa_device.specs.Running.{Running, running_at_first}
-use Rattle.dsa_scenario.specs.{Steps.{Visit, visit}, Worked.{record_ticket, smallest_caps, stepped}}
+use Rattle.dsa_book.specs.declared.answer.Reply.{Reply}
+use Rattle.dsa_book.specs.declared.fate.{Fate.TheVariants.{Abandoned, Aborted, Completed}, FateRow.{FateRow}}
+use Rattle.dsa_scenario.specs.declared.run.Record.{Record}
+use Rattle.dsa_scenario.specs.{Steps.{Visit, visit}, Worked.{fate, record_ticket, smallest_caps, stepped}}
 
 -- three queues, four groups and two engines
 abbrev pub caps_of_a_trace : Caps
@@ -42,6 +46,7 @@ device_of_a_trace =
         work = record work {
           setup = record work.setup {
             device = On;
+            noted = Some (record { queue = 2; cause = AtLimit; overflow = true });
             phases = Off ∷ On ∷ Stopping ∷ [];
             configs = queue_of_a_trace 0 7 false ∷ queue_of_a_trace 9 8 true ∷ queue_of_a_trace 12 5 false ∷ [];
             groups =
@@ -67,12 +72,28 @@ step_of_a_trace =
     visit 12 (running_at_first smallest_caps 50)
     (stepped (event.Dispatch 1) (reply.Dispatch (Taken (record_ticket 5 33) 2))) device_of_a_trace
 
--- ---- what the objects of two devices tell
+-- ---- answers and fates
 
--- of the smallest one at first
+-- a poll with this answer
+abbrev pub answer_to_a_poll : Reply → Record
+answer_to_a_poll answer = stepped event.Poll answer
+
+-- how the entries 6 to 9 ended
+abbrev pub four_fates : List FateRow
+four_fates = fate 6 (Completed 1) ∷ fate 7 (Aborted 5) ∷ fate 8 (Completed 3) ∷ fate 9 Abandoned ∷ []
+
+-- ---- what is told of two devices
+
+-- the end of a row of the one with three queues
+abbrev pub names_of_a_trace : List ℕ
+names_of_a_trace =
+    codes " | q1 [21,22] | q2 [23] | e0 [31] | e1 [32,33] | batch of e1 [41,42,43]"
+    ++ codes " | drain-pasid 7 awaits 5\n"
+
+-- the members of the object of the smallest one at first
 abbrev pub members_at_first : List ℕ
 members_at_first =
-    codes "\"phase\":\"off\",\"queues\":["
+    codes "\"phase\":\"off\",\"error\":null,\"queues\":["
     ++ codes "{\"queue\":0,\"occupancy\":0,\"threshold\":0,\"size\":0,\"phase\":\"off\","
     ++ codes "\"waiting\":[]}],"
     ++ codes "\"engines\":[{\"engine\":0,\"in_progress\":0,\"slots\":1,\"members\":0,"
@@ -80,10 +101,10 @@ members_at_first =
     ++ codes "\"groups\":[{\"group\":0,\"used\":0,\"allowed\":0,\"reserved\":0}],"
     ++ codes "\"active\":null"
 
--- of the one above
+-- and of the other one
 abbrev pub members_of_a_trace : List ℕ
 members_of_a_trace =
-    codes "\"phase\":\"on\",\"queues\":["
+    codes "\"phase\":\"on\",\"error\":{\"queue\":2,\"cause\":\"at-limit\",\"overflow\":true},\"queues\":["
     ++ codes "{\"queue\":0,\"occupancy\":0,\"threshold\":7,\"size\":0,\"phase\":\"off\","
     ++ codes "\"waiting\":[]},"
     ++ codes "{\"queue\":1,\"occupancy\":2,\"threshold\":8,\"size\":9,\"phase\":\"on\","

@@ -3,31 +3,40 @@
 ghost use Rattle.std.specs.Prelude.{◌≡◌, ◌++◌, [], ◌∷◌, codes};
 ghost use Rattle.dsa_regs.specs.declared.Fault.TheVariants.{BadCommand};
 ghost use Rattle.dsa_device.specs.Running.{running_at_first};
+ghost use Rattle.dsa_scenario.specs.Worked.{no_command};
 ghost use Rattle.dsa_scenario.specs.declared.run.Record.TheVariants.{Refused};
 ghost use Rattle.dsa_scenario.specs.Worked.{poll_text, smallest_caps, stepless_text};
-ghost use Rattle.dsa_trace.specs.declared.form.Trace.TheVariants.{Table, Json};
+ghost use Rattle.dsa_trace.specs.declared.form.Trace.TheVariants.{Table, Wide, Json};
 ghost use Rattle.dsa_trace.specs.Columns.{state_object};
 ghost use Rattle.dsa_trace.specs.Held.{held_lines};
 ghost use Rattle.dsa_trace.specs.Lines.{step_line, trace_line_of_step};
 ghost use Rattle.dsa_trace.specs.Run.{IsTrace, IsTraceOf};
-ghost use Rattle.dsa_trace_rows.specs.Worked.{device_of_a_trace, members_at_first, members_of_a_trace, step_of_a_trace};
+ghost use Rattle.dsa_trace_rows.specs.Worked.{device_of_a_trace, members_at_first, members_of_a_trace};
+ghost use Rattle.dsa_trace_rows.specs.Worked.{names_of_a_trace, step_of_a_trace};
 
 /// The line of a step of a device with three queues, two engines and four groups, and that of a
 /// word that is no command on a new device.
 #[tactic(auto, unfolding(dsa_scenario::specs::Worked::digits_on_literals))]
 pub fn of_steps()
     ensures table { trace_line_of_step Table step_of_a_trace
-        ≡ codes "12 dispatch e1 -> taken 33 from 2 | q1 2/9 q2 1/5/12 | e0 1/6 m0 e1 2/6 m3"
-        ++ codes " | g0 6/11 g1 1/13 g2 0/0 g3 0/4 | drain-pasid 7 awaits 5\n" }
+        ≡ codes "12 | q1 2/9 q2  1/5/12 | e0 1/6 m 0 e1 2/6 m 3 | g0  6/11 g1  1/13"
+        ++ codes " | dispatch e1 -> taken 33 from 2" ++ names_of_a_trace }
+    ensures wide { trace_line_of_step Wide step_of_a_trace
+        ≡ codes "12 | q0 0/7/0 q1 2/8/9 q2  1/5/12 | e0 1/6 m 0 e1 2/6 m 3"
+        ++ codes " | g0  6/11 g1  1/13 g2 0/0 g3 0/4 | dispatch e1 -> taken 33 from 2"
+        ++ names_of_a_trace }
     ensures json { trace_line_of_step Json step_of_a_trace
         ≡ codes "{\"step\":12,\"event\":\"dispatch e1\",\"answer\":\"taken 33 from 2\","
+        ++ codes "\"result\":{\"kind\":\"taken\",\"name\":33,\"queue\":2},\"fates\":[],"
         ++ members_of_a_trace ++ codes "}\n" }
-    ensures word { step_line Table smallest_caps 9 (Refused BadCommand)
-        (running_at_first smallest_caps 4).state
-        ≡ codes "9 command -> refused 13 BadCommand | | e0 0/1 m0 | g0 0/0\n" }
-    ensures word_as_json { step_line Json smallest_caps 9 (Refused BadCommand)
-        (running_at_first smallest_caps 4).state
-        ≡ codes "{\"step\":9,\"event\":\"command\",\"answer\":\"refused 13 BadCommand\","
+    ensures word { step_line Table 9 (Refused no_command) (running_at_first smallest_caps 400)
+        ≡ codes "  9 | | | | command 0x0 -> refused 13 BadCommand\n" }
+    ensures wide_word { step_line Wide 9 (Refused no_command) (running_at_first smallest_caps 4)
+        ≡ codes "9 | q0 0/0/0 | e0 0/1 m0 | g0 0/0 | command 0x0 -> refused 13 BadCommand\n" }
+    ensures word_as_json { step_line Json 9 (Refused no_command) (running_at_first smallest_caps 4)
+        ≡ codes "{\"step\":9,\"event\":\"command 0x0\",\"answer\":\"refused 13 BadCommand\","
+        ++ codes "\"result\":{\"kind\":\"refused\",\"fault\":13,"
+        ++ codes "\"fault_name\":\"BadCommand\"},\"fates\":[],"
         ++ members_at_first ++ codes "}\n" }
 {}
 
@@ -60,8 +69,8 @@ pub fn of_entries()
 pub fn of_runs()
     ensures none { IsTraceOf Table [] (running_at_first smallest_caps 4) [] }
     ensures one { IsTraceOf Table (step_of_a_trace ∷ []) device_of_a_trace
-        (codes "12 dispatch e1 -> taken 33 from 2 | q1 2/9 q2 1/5/12 | e0 1/6 m0 e1 2/6 m3"
-        ++ codes " | g0 6/11 g1 1/13 g2 0/0 g3 0/4 | drain-pasid 7 awaits 5\n"
+        (codes "12 | q1 2/9 q2  1/5/12 | e0 1/6 m 0 e1 2/6 m 3 | g0  6/11 g1  1/13"
+        ++ codes " | dispatch e1 -> taken 33 from 2" ++ names_of_a_trace
         ++ codes "held 21 in q1\nheld 22 in q1\nheld 23 in q2\nheld 31 in e0\nheld 32 in e1\n"
         ++ codes "held 33 in e1\nheld 41 in batch of e1\nheld 42 in batch of e1\n"
         ++ codes "held 43 in batch of e1\n") }
@@ -71,6 +80,6 @@ pub fn of_runs()
 #[tactic(auto, unfolding(serde_json::proofs::OnLiterals::serde_json_on_literals))]
 pub fn of_documents()
     ensures poll { IsTrace Table poll_text
-        (codes "0 poll -> nothing | | e0 0/1 m0 | g0 0/0\n") }
+        (codes "0 | | | | poll -> nothing\n") }
     ensures no_steps { IsTrace Json (stepless_text (codes "9")) [] }
 {}

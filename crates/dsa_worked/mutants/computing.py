@@ -1,5 +1,6 @@
 """Computes definitions, so that a mutant is tried at once. What it says is a guess: the checker decides."""
 
+import functools
 import json
 import os
 import re
@@ -226,6 +227,17 @@ def keys_of(d):
     return [name for name, _ in members_of(Made("object", (d,)))]
 
 
+def members_with(k, d, members):
+    """The members of an object in the order of their keys, with this value at the key."""
+    there = [(name, x) for name, x in members_of(Made("object", (members,))) if name != k] + [(k, d)]
+    return functools.reduce(lambda ms, it: Made("member", (*it, ms)), sorted(there, key=lambda it: it[0], reverse=True), Made("no_members"))
+
+
+def items_of(values):
+    """A list of JSON values as the items of an array."""
+    return functools.reduce(lambda ds, d: Made("item", (d, ds)), values[::-1], Made("no_items"))
+
+
 # What the toolchain's own library has, by name: how many arguments, and what they give.
 LIBRARY = {
     "not": (1, lambda a: not a), "map": (2, lambda f, xs: [f(x) for x in xs]),
@@ -236,6 +248,7 @@ LIBRARY = {
     "get_or": (3, at_place), "slice_index_or": (3, at_place), "slice_index": (2, lambda xs, i: at_place(xs, i, 0)),
     "slice_get": (2, lambda xs, i: some(xs[i]) if i < len(xs) else NONE), "slice_set": (3, put),
     "set": (3, put), "range_with_len": (2, lambda i, n: list(range(i, i + n))), "slice_range": (3, lambda xs, i, j: xs[i:j]),
+    "before_first": (2, lambda f, xs: xs[:first_place(f, xs)]),
     "take": (2, lambda n, xs: xs[:n]), "drop": (2, lambda n, xs: xs[n:]), "replicate": (2, lambda n, x: [x] * n),
     "sum_by": (2, lambda f, xs: sum(f(x) for x in xs)), "count_by": (2, lambda f, xs: sum(1 for x in xs if f(x))),
     "list_any": (2, lambda f, xs: any(f(x) for x in xs)), "list_all": (2, lambda f, xs: all(f(x) for x in xs)),
@@ -257,7 +270,8 @@ LIBRARY = {
     "get": (2, lambda k, d: next((some(x) for name, x in members_of(d) if name == k), NONE)),
     "as_bool": as_kind("boolean"), "as_number": as_kind("number"), "as_str": as_kind("string"), "as_array": as_kind("array"),
     "as_object": as_kind("object"), "as_u64": as_kind("unsigned"), "as_i64": (1, as_i64), "decode_pairs": (2, bytes_of_digits),
-    "signed_decimal": (1, in_signs), "string_bytes": (1, lambda x: x.arguments[0]),
+    "put": (3, members_with), "items_of": (1, items_of), "encode_lower": (1, lambda bs: list(bytes(bs).hex().encode())),
+    "bit_or": (2, lambda a, b: a | b), "signed_decimal": (1, in_signs), "string_bytes": (1, lambda x: x.arguments[0]),
     "is_ascii_hexdigit": (1, lambda c: 48 <= c <= 57 or 65 <= c <= 70 or 97 <= c <= 102),
     "suffix_len": (2, lambda f, xs: first_place(lambda x: not f(x), xs[::-1])),
     "IsTrue": (1, lambda a: a),

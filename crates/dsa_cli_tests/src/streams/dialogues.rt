@@ -17,7 +17,7 @@ const ONE_LINE: usize = DIALOGUE.len() - 42;
 
 const TWO_LINES: usize = DIALOGUE.len() - 13;
 
-const ANSWERS: &str = "nothing\nidle\nnothing\n";
+const ANSWERS: &str = "nothing\nready 1\nidle\nnothing\n";
 
 #[test]
 fn little_by_little(rt: HostRuntime) {
@@ -25,13 +25,13 @@ fn little_by_little(rt: HostRuntime) {
     const ROWS: [Row; 6] = [
         ((ALL, ALL), (ALL, ALL), Ok(()), ANSWERS, (2, 2)),
         ((1, ALL), (ALL, ALL), Ok(()), ANSWERS, (READS, 3)),
-        ((1, ALL), (1, ALL), Ok(()), ANSWERS, (READS, 21)),
+        ((1, ALL), (1, ALL), Ok(()), ANSWERS, (READS, 29)),
         ((ALL, 0), (ALL, 0), READ, "", (1, 0)),
         (
             (1, DIALOGUE.len()),
             (ALL, ALL),
             READ,
-            "nothing\nidle\n",
+            "nothing\nready 1\nidle\n",
             (READS, 2),
         ),
         ((ALL, ALL), (0, ALL), WRITE, "", (1, 1)),
@@ -46,17 +46,29 @@ fn one_error(rt: HostRuntime) {
     const LATER: u32 = TWO_LINES as u32;
     const ROWS: [Row; 6] = [
         ((10, 10), (ALL, ALL), READ, "", (2, 0)),
-        ((ONE_LINE, ONE_LINE), (ALL, ALL), READ, "nothing\n", (2, 1)),
+        (
+            (ONE_LINE, ONE_LINE),
+            (ALL, ALL),
+            READ,
+            "nothing\nready 1\n",
+            (2, 1),
+        ),
         (
             (1, TWO_LINES),
             (ALL, ALL),
             READ,
-            "nothing\nidle\n",
+            "nothing\nready 1\nidle\n",
             (LATER + 1, 2),
         ),
         ((ALL, ALL), (3, 6), WRITE, "nothin", (1, 3)),
-        ((1, ALL), (ALL, 8), WRITE, "nothing\n", (LATER, 2)),
-        ((ALL, ALL), (ALL, 13), WRITE, "nothing\nidle\n", (2, 2)),
+        ((1, ALL), (ALL, 16), WRITE, "nothing\nready 1\n", (LATER, 2)),
+        (
+            (ALL, ALL),
+            (ALL, 21),
+            WRITE,
+            "nothing\nready 1\nidle\n",
+            (2, 2),
+        ),
     ];
     Way::Dialogue.leads_each(&rt, rt.alloc(), DIALOGUE.as_bytes(), &ROWS);
     Way::Dialogue.leads_by_each_kind(&rt, rt.alloc(), DIALOGUE.as_bytes(), &ROWS);

@@ -1,9 +1,10 @@
 use Rattle.dsa_check.proofs.rows.faults_of_texts.Goals as goal
 use Rattle.std.proofs.Common.{◌≡◌, ◌⊎◌, ◌∙◌, ◌==◌, ◌++◌, ◌||◌, ℕ, Bool, false, true, List, [], ◌∷◌}
 use Rattle.std.proofs.Common.{Some, codes, refl, ap, subst, lit≤}
-use Rattle.std.proofs.{Common.{inl, inr, flat_map}, lemmas.List.Folds.{list_any-append}}
+use Rattle.std.proofs.{Common.{inl, inr, flat_map, map, Option, None}, lemmas.List.Folds.{list_any-append}}
+use Rattle.std.proofs.lemmas.List.{append_assoc}
 use Rattle.std.specs.List.{list_any}
-use Rattle.std.specs.Prelude.{IsUtf8}
+use Rattle.std.specs.Prelude.{IsUtf8, option_map}
 use Rattle.serde_json.{specs.{Data.{Data}, Read.{read}}, proofs.OnLiterals.{serde_json_on_literals}}
 use Rattle.dsa_regs.specs.Caps.{check_caps}
 use Rattle.dsa_scenario.specs.declared.faults.ScenarioFault.{ScenarioFault, TheVariants.{BadDocument, BadCaps}}
@@ -11,11 +12,13 @@ use Rattle.dsa_scenario.specs.declared.faults.ScenarioFault.TheVariants.{BadCapa
 use Rattle.dsa_scenario.specs.Worked.{no_caps_text, smallest_caps, document_text}
 use Rattle.dsa_scenario.proofs.Heads.{document_by, same_caps, same_head}
 use Rattle.dsa_check.specs.declared.finding.{Finding.{Finding}, Reason.{Reason}}
-use Rattle.dsa_check.specs.Lines.{reason_text, fault_part_text, known_number_text, place_text, line_of_finding}
-use Rattle.dsa_check.specs.Lines.{lines_of_finding, finding_text, report_text, warnings_text}
-use Rattle.dsa_check.specs.Check.{first_of, faults_warned}
+use Rattle.dsa_check.specs.Lines.{fault_part_text, warning_mark, spot_text, known_text, remark_text}
+use Rattle.dsa_check.specs.Remarks.{Said, said, reasons_or_none, said_of_fault, said_of_warning, said_of}
+use Rattle.dsa_check.specs.declared.remarks.Remark.{Remark}
+use Rattle.dsa_check.specs.Check.{first_of, faults_warned, report_text}
+use Rattle.dsa_check.specs.declared.checking.CheckForm.TheVariants.{Lines}
 use Rattle.dsa_check.specs.Warnings.{AreWarningsOf, warnings_told, warnings_of_value}
-use Rattle.dsa_check.proofs.{Told.{same_value}, Warned.{no_lines}}
+use Rattle.dsa_check.proofs.{Told.{same_value}, Warned.{none_said, no_remarks}}
 use Rattle.dsa_scenario.specs.Document.{IsJson}
 use Rattle.json.specs.Json.{document}
 use Rattle.dsa_check.specs.{Judgement.{AreFaultsOf, IsRight, faults_told, faults_of_value}, Worked.{right_text}}
@@ -108,6 +111,8 @@ returns-clause-report c = record {
   warnings = [];
   warned = record { all = right_warns; placed = λ d json. tt; none = λ none. refl };
   first = refl;
+  remarks = [];
+  remarked = record { all = refl; placed = tt };
   lines = refl;
 }
 
@@ -127,8 +132,9 @@ returns-clause-right_with_a_fault c is =
 
 pub returns-clause-right_with_a_line : goal.returns-clause-right_with_a_line
 returns-clause-right_with_a_line c is =
-    let none = no_lines is.warnings (no_warning is.warnings is.warned) in
-    let lines = rw (none_told is.findings is.all, none) at is.lines in
+    let none = none_said is.warnings (no_warning is.warnings is.warned) in
+    let all = rw (none_told is.findings is.all, none) at is.remarked.all in
+    let lines = rw (no_remarks is.remarks all) at is.lines in
     absurd cc
 
 pub returns-clause-warning_before_a_fault : goal.returns-clause-warning_before_a_fault
@@ -160,29 +166,50 @@ in_second xs ys h = list_any-append is_y xs ys ∙ ap (λ b. list_any is_y xs ||
     either true = refl
     either false = refl
 
-in_place : (finding : Finding) → finding.fault ≡ BadCapacity → list_any is_y (place_text finding) ≡ true
-in_place finding is =
-    let line = known_number_text (codes "line ") finding.place.line (codes ", ") in
-    let column = known_number_text (codes "column ") finding.place.column (codes ": ") in
+in_remark : (remark : Remark) → remark.finding.now.fault ≡ BadCapacity → list_any is_y (remark_text remark) ≡ true
+in_remark remark is =
+    let finding = remark.finding.now in
+    let place = warning_mark remark.is_warning ++ spot_text finding remark.spot in
     let part = fault_part_text finding.fault finding.place.kind in
-    in_second (line ++ column) part (ap (λ f. list_any is_y (fault_part_text f finding.place.kind)) is)
+    let known = known_text (option_map (λ r. r.now) remark.reason) in
+    in_first (place ++ part ++ known) (codes "\n")
+    (in_first (place ++ part) known
+    (in_second place part (ap (λ f. list_any is_y (fault_part_text f finding.place.kind)) is)))
 
-in_lines : (finding : Finding) (reasons : List Reason) → list_any is_y (place_text finding) ≡ true
-    → list_any is_y (lines_of_finding finding reasons) ≡ true
-in_lines finding [] h = in_first (place_text finding) (codes "not understood\n") h
-in_lines finding (r ∷ rs) h =
-    in_first (line_of_finding finding r) (flat_map (line_of_finding finding) rs)
-    (in_first (place_text finding ++ reason_text r) (codes "\n") (in_first (place_text finding) (reason_text r) h))
+in_said : (bytes : List ℕ) (remarks : List Remark) (before after : List Said) (finding : Finding) (reason : Option Reason)
+    → finding.fault ≡ BadCapacity → map said remarks ≡ before ++ (false, finding, reason) ∷ after
+    → list_any is_y (report_text Lines bytes remarks) ≡ true
+in_said bytes [] [] after finding reason is e = absurd cc
+in_said bytes [] (s ∷ before) after finding reason is e = absurd cc
+in_said bytes (remark ∷ remarks) [] after finding reason is e =
+    let same : said remark ≡ (false, finding, reason) = cc in
+    let of_capacity : remark.finding.now.fault ≡ BadCapacity = ap (λ (s : Said). s.1.fault) same ∙ is in
+    in_first (remark_text remark) (report_text Lines bytes remarks) (in_remark remark of_capacity)
+in_said bytes (remark ∷ remarks) (s ∷ before) after finding reason is e =
+    in_second (remark_text remark) (report_text Lines bytes remarks) (in_said bytes remarks before after finding reason is cc)
 
-in_report : (findings : List Finding) → faults_told findings ≡ BadCaps ∷ BadCapacity ∷ []
-    → list_any is_y (report_text findings) ≡ true
-in_report [] e = absurd cc
-in_report (f ∷ []) e = absurd cc
-in_report (f ∷ g ∷ findings) e =
+-- what is said of a fault begins with it
+said_first : (finding : Finding) (reasons : List Reason)
+    → (reason : Option Reason) × (more : List Said)
+    × (map (λ (r : Option Reason). (false, finding, r)) (reasons_or_none reasons) ≡ (false, finding, reason) ∷ more)
+said_first finding [] = (None, [], refl)
+said_first finding (r ∷ rs) = (Some r, _, refl)
+
+in_report : (bytes : List ℕ) (findings warnings : List Finding) (remarks : List Remark)
+    → faults_told findings ≡ BadCaps ∷ BadCapacity ∷ [] → map said remarks ≡ said_of findings warnings
+    → list_any is_y (report_text Lines bytes remarks) ≡ true
+in_report bytes [] warnings remarks e all = absurd cc
+in_report bytes (f ∷ []) warnings remarks e all = absurd cc
+in_report bytes (f ∷ g ∷ findings) warnings remarks e all =
     let told : f.fault ∷ g.fault ∷ faults_told findings ≡ BadCaps ∷ BadCapacity ∷ [] = e in
     let is : g.fault ≡ BadCapacity = cc in
-    in_second (finding_text f) (flat_map finding_text (g ∷ findings))
-    (in_first (finding_text g) (flat_map finding_text findings) (in_lines g g.reasons.items (in_place g is)))
+    let first = said_first g g.reasons.items in
+    let rest = flat_map said_of_fault findings in
+    let warned = flat_map said_of_warning warnings in
+    let same : said_of (f ∷ g ∷ findings) warnings
+    ≡ said_of_fault f ++ (false, g, first.0) ∷ ((first.1 ++ rest) ++ warned) =
+    append_assoc (said_of_fault f) (said_of_fault g ++ rest) warned ∙ ap (λ xs. said_of_fault f ++ ((xs ++ rest) ++ warned)) first.2 in
+    in_said bytes remarks (said_of_fault f) ((first.1 ++ rest) ++ warned) g first.0 is (all ∙ same)
 
 pub returns-clause-second_untold : goal.returns-clause-second_untold
 unfolding serde_json_on_literals
@@ -192,6 +219,6 @@ returns-clause-second_untold c is =
       | inl none ↦ none (text, (refl, refl))
       | inr told ↦
           let none : false ≡ true = ap (list_any is_y) is.lines
-          ∙ in_first (report_text is.findings) (warnings_text is.warnings) (in_report is.findings told) in
+          ∙ in_report text is.findings is.warnings is.remarks told is.remarked.all in
           absurd cc
     ]

@@ -10,6 +10,10 @@ pub returns-clause-line : goal.returns-clause-line
 unfolding digits_on_literals
 returns-clause-line c reasons = refl
 
+pub returns-clause-spot : goal.returns-clause-spot
+unfolding digits_on_literals
+returns-clause-spot c reasons = refl
+
 pub returns-clause-told : goal.returns-clause-told
 unfolding digits_on_literals
 returns-clause-told c reasons = refl

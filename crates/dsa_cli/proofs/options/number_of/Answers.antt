@@ -9,7 +9,7 @@ use Rattle.dsa_cli.proofs.OptionNumbers.{reads_number}
 pub returns-clause-number : goal.returns-clause-number
 returns-clause-number c text has numeral least most =
     let held = one_text-rows (found_of c.args.matches.now) c.args.name.now ∙ has in
-    let read = reads_number (λ bs r. ParsesUnsigned 32 10 bs r × ExplainsUnsignedError 10 bs r
+    let read = reads_number 32 (λ bs r. ParsesUnsigned 32 10 bs r × ExplainsUnsignedError 10 bs r
     × HasUnsignedDigitsIfOk bs r) (λ t r h. h.0) text c.get_one.result
     (c.get_one.ensures.value text held) numeral (omega (arith, most, c.ranges.most.fits)) in
     let value : c.unwrap_or.result ≡ digits_value 10 (without_leading_plus text) = c.unwrap_or.ensures

@@ -12,6 +12,7 @@ use Rattle.std.proofs.lemmas.Bool.{cases_lt}
 use Rattle.dsa_cli.specs.CommandLine.{AskForWorkers, AsksFor, program_app, faults_of_words}
 use Rattle.dsa_cli.specs.Threads.{IsAskedInRange}
 use Rattle.dsa_cli.proofs.OptionNumbers.{name-rows, some_pair}
+use Rattle.dsa_cli.proofs.ReportCommands.{asks_by, in_range}
 
 simple : is_simple program_app ≡ true
 unfolding clap_on_literals
@@ -71,14 +72,19 @@ returns-in-Some-clause-asked c =
       | inr low ↦ subst (AsksFor words) (sym (c.asked_by.ensures.workers low)) ask
     ]
 
-pub returns-in-Some-report_of-clause-faults : goal.returns-in-Some-report_of-clause-faults
-returns-in-Some-report_of-clause-faults c = well _ _ c.in_ok-command_line.ensures c.in_ok-matches.ensures.kinds
+pub returns-in-Some-report_asked-clause-faults : goal.returns-in-Some-report_asked-clause-faults
+returns-in-Some-report_asked-clause-faults c = well _ _ c.in_ok-command_line.ensures c.in_ok-matches.ensures.kinds
 
-pub returns-in-Some-report_of-clause-asked : goal.returns-in-Some-report_of-clause-asked
-returns-in-Some-report_of-clause-asked c =
+pub returns-in-Some-report_asked-clause-asked : goal.returns-in-Some-report_asked-clause-asked
+returns-in-Some-report_asked-clause-asked c =
     let met = met _ _ _ c.in_ok-command_line.ensures c.in_ok-matches.ensures.matches in
-    let named = c.in-Some-report_of.ensures.some in
-    (named.0, (returns-in-Some-report_of-clause-faults c, sym met ∙ named.1, named.2), named.3)
+    let named = c.in-Some-report_asked.ensures.some in
+    asks_by _ named.0 (returns-in-Some-report_asked-clause-faults c, sym met ∙ named.1, named.2) _ named.3
+
+pub returns-in-Some-report_asked-clause-range : goal.returns-in-Some-report_asked-clause-range
+returns-in-Some-report_asked-clause-range c =
+    let named = c.in-Some-report_asked.ensures.some in
+    in_range _ _ named.3
 
 pub returns-then-is_named-clause-faults : goal.returns-then-is_named-clause-faults
 returns-then-is_named-clause-faults c = well _ _ c.in_ok-command_line.ensures c.in_ok-matches.ensures.kinds
@@ -105,7 +111,7 @@ returns-clause-asked c name is named =
     let met = met _ _ _ c.in_ok-command_line.ensures c.in_ok-matches.ensures.matches in
     let found = ap (option_map (λ found. found.0)) met ∙ named in
     elim is [
-      | inl report ↦ c.in_default-report_of.ensures.none name report found
+      | inl report ↦ c.in_default-report_asked.ensures.none name report found
       | inr other ↦
           elim other [
             | inl serve ↦ c.is_named.ensures.other c.if-is_named.false (found ∙ ap Some serve)

@@ -4,11 +4,15 @@ use Rattle.std.proofs.Common.{inl, inr, refl, sym}
 use Rattle.std.proofs.Common.{ap, subst, arith, lit≤, lit<}
 use Rattle.std.specs.Str.Parse.{IsNumeral}
 use Rattle.std.specs.Prelude.{option_and_then}
-use Rattle.clap.specs.Walk.{Row, Text, one_of}
+use Rattle.clap.specs.Walk.{Row, Text, first_of, one_of}
+use Rattle.dsa_chosen.specs.Words.{unknown_word}
 use Rattle.clap.specs.declared.error.kind.ErrorKind.TheVariants.{UnknownArgument}
 use Rattle.clap.proofs.OnLiterals.{clap_on_literals}
-use Rattle.dsa_cli.specs.{CommandLine.{IsReportName}, Worked.{load}}
+use Rattle.dsa_cli.specs.declared.options.WrongValue.TheVariants.{Answer}
+use Rattle.dsa_cli.specs.{CommandLine.{IsReportName}, Worked.{load, lent_text}}
+use Rattle.dsa_cli.proofs.Choices.{first_given, first_left_out, when_given, when_left_out}
 use Rattle.dsa_cli.proofs.DecidedLoads.{said_numbers}
+use Rattle.dsa_cli.proofs.LinesChosen.{none_chosen, says_given}
 use Rattle.dsa_cli.proofs.ReportNames.{same_first, no_report}
 
 -- the name of a command, and the text of an option
@@ -17,6 +21,10 @@ name_in found = unwrap_or (option_map (λ (p : Text × List Row). p.0) found) []
 
 abbrev option_in : Text → Option (Text × List Row) → Option Text
 option_in name found = option_and_then (λ (p : Text × List Row). one_of name p.1) found
+
+-- the words that the option of `explain` has
+abbrev words_in : Text → Option (Text × List Row) → Option Text
+words_in name found = option_and_then (λ (p : Text × List Row). first_of name p.1) found
 
 pub returns-clause-scenario : goal.returns-clause-scenario
 unfolding clap_on_literals
@@ -49,48 +57,142 @@ returns-clause-high_threshold c = ((_, (refl, refl), said_numbers _ _ refl refl 
 
 pub returns-clause-mistaken_threshold : goal.returns-clause-mistaken_threshold
 returns-clause-mistaken_threshold c =
-    inr (record (load 2 2 100 10_000) { threshold = 17 }, returns-clause-high_threshold c)
+    inr (inl (record (load 2 2 100 10_000) { threshold = 17 }, returns-clause-high_threshold c))
 
 pub returns-clause-threshold_at_the_size : goal.returns-clause-threshold_at_the_size
 returns-clause-threshold_at_the_size c asks = omega (arith, asks.1)
 
 pub returns-clause-check : goal.returns-clause-check
 unfolding clap_on_literals
-returns-clause-check c = (_, (refl, refl, inl refl), (refl, record { given = λ has. absurd cc; left_out = λ has. refl }))
+returns-clause-check c = (
+  _,
+  (refl, refl, inl refl),
+  (
+    refl,
+    record {
+      strict = when_left_out refl;
+      form = first_left_out refl (first_left_out refl (first_left_out refl refl));
+    },
+  ),
+)
 
 pub returns-clause-strict_check : goal.returns-clause-strict_check
 unfolding clap_on_literals
-returns-clause-strict_check c =
-    (_, (refl, refl, inl refl), (refl, record { given = λ has. refl; left_out = λ has. absurd cc }))
+returns-clause-strict_check c = (
+  _,
+  (refl, refl, inl refl),
+  (
+    refl,
+    record {
+      strict = when_given refl;
+      form = first_left_out refl (first_left_out refl (first_left_out refl refl));
+    },
+  ),
+)
+
+pub returns-clause-json_check : goal.returns-clause-json_check
+unfolding clap_on_literals
+returns-clause-json_check c = (
+  _,
+  (refl, refl, inl refl),
+  (
+    refl,
+    record {
+      strict = when_left_out refl;
+      form = first_given refl;
+    },
+  ),
+)
+
+pub returns-clause-colored_check : goal.returns-clause-colored_check
+unfolding clap_on_literals
+returns-clause-colored_check c = (
+  _,
+  (refl, refl, inl refl),
+  (
+    refl,
+    record {
+      strict = when_left_out refl;
+      form = first_left_out refl (first_given refl);
+    },
+  ),
+)
 
 pub returns-clause-no_plain_check : goal.returns-clause-no_plain_check
 unfolding clap_on_literals
 returns-clause-no_plain_check c asks =
     let option = ap (option_in (codes "strict")) asks.1.1 in
-    let same = asks.2.1.given (sym option) in
+    let same = asks.2.1.strict.given (sym option) in
     cc
 
 pub returns-clause-no_strict_check : goal.returns-clause-no_strict_check
 unfolding clap_on_literals
 returns-clause-no_strict_check c asks =
     let option = ap (option_in (codes "strict")) asks.1.1 in
-    let same = asks.2.1.left_out (sym option) in
+    let same = asks.2.1.strict.left_out (sym option) in
     cc
 
 pub returns-clause-explain : goal.returns-clause-explain
 unfolding clap_on_literals
-returns-clause-explain c = (_, (refl, refl, inr (inl refl)), (refl, record { given = λ has. absurd cc; left_out = λ has. refl }))
+returns-clause-explain c = (
+  _,
+  (refl, refl, inr (inl refl)),
+  (refl, none_chosen _ refl refl refl, when_left_out refl),
+)
 
 pub returns-clause-seen_explain : goal.returns-clause-seen_explain
 unfolding clap_on_literals
-returns-clause-seen_explain c =
-    (_, (refl, refl, inr (inl refl)), (refl, record { given = λ has. refl; left_out = λ has. absurd cc }))
+returns-clause-seen_explain c = (
+  _,
+  (refl, refl, inr (inl refl)),
+  (refl, none_chosen _ refl refl refl, when_given refl),
+)
+
+pub returns-clause-chosen : goal.returns-clause-chosen
+unfolding clap_on_literals
+returns-clause-chosen c = (
+  _,
+  (refl, refl, inr (inl refl)),
+  (
+    refl,
+    record {
+      name = says_given _ (codes "name") 4_294_967_295 (codes "3") {n = 3} refl refl;
+      client = says_given _ (codes "client") 65_535 (codes "2") {n = 2} refl refl;
+      answers = refl;
+      known = refl;
+    },
+    record { given = λ has. refl; left_out = λ has. absurd cc },
+  ),
+)
+
+pub returns-clause-no_lines_chosen : goal.returns-clause-no_lines_chosen
+unfolding clap_on_literals
+returns-clause-no_lines_chosen c asks =
+    let option = ap (words_in (codes "only")) asks.1.1 in
+    let same = asks.2.1.answers ∙ sym option in
+    cc
+
+pub returns-clause-unknown_answer : goal.returns-clause-unknown_answer
+unfolding clap_on_literals
+returns-clause-unknown_answer c = (_, (refl, refl, inr (inl refl)), (refl, refl))
+
+pub returns-clause-known_answer : goal.returns-clause-known_answer
+unfolding clap_on_literals
+returns-clause-known_answer c asks =
+    let option = ap (λ o. option_and_then unknown_word (words_in (codes "only") o)) asks.1.1 in
+    let same = option ∙ asks.2.1 in
+    cc
+
+pub returns-clause-mistaken_answer : goal.returns-clause-mistaken_answer
+unfolding clap_on_literals
+returns-clause-mistaken_answer c =
+    inr (inr (Answer (lent_text (codes "idel")), (_, (refl, refl, inr (inl refl)), (refl, refl))))
 
 pub returns-clause-no_own_explain : goal.returns-clause-no_own_explain
 unfolding clap_on_literals
 returns-clause-no_own_explain c asks =
     let option = ap (option_in (codes "seen")) asks.1.1 in
-    let same = asks.2.1.given (sym option) in
+    let same = asks.2.2.given (sym option) in
     cc
 
 pub returns-clause-count : goal.returns-clause-count
@@ -99,23 +201,42 @@ returns-clause-count c = (_, (refl, refl, inr (inr (inr (inl refl)))), refl)
 
 pub returns-clause-draw : goal.returns-clause-draw
 unfolding clap_on_literals
-returns-clause-draw c = (_, (refl, refl, inr (inr (inr (inr (inl refl))))), (refl, record { given = λ has. absurd cc; left_out = λ has. refl }))
+returns-clause-draw c = (_, (refl, refl, inr (inr (inr (inr (inl refl))))), (refl, refl, when_left_out refl))
 
 pub returns-clause-seen_draw : goal.returns-clause-seen_draw
 unfolding clap_on_literals
-returns-clause-seen_draw c =
-    (_, (refl, refl, inr (inr (inr (inr (inl refl))))), (refl, record { given = λ has. refl; left_out = λ has. absurd cc }))
+returns-clause-seen_draw c = (_, (refl, refl, inr (inr (inr (inr (inl refl))))), (refl, refl, when_given refl))
+
+pub returns-clause-steps : goal.returns-clause-steps
+unfolding clap_on_literals
+returns-clause-steps c = (_, (refl, refl, inr (inr (inr (inr (inl refl))))), (refl, refl, when_left_out refl))
+
+pub returns-clause-no_steps : goal.returns-clause-no_steps
+unfolding clap_on_literals
+returns-clause-no_steps c = (_, (refl, refl, inr (inr (inr (inr (inl refl))))), (refl, refl, refl))
 
 pub returns-clause-no_seen_draw : goal.returns-clause-no_seen_draw
 unfolding clap_on_literals
 returns-clause-no_seen_draw c asks =
     let option = ap (option_in (codes "seen")) asks.1.1 in
-    let same = asks.2.1.left_out (sym option) in
+    let same = asks.2.2.left_out (sym option) in
     cc
 
 pub returns-clause-conform : goal.returns-clause-conform
 unfolding clap_on_literals
-returns-clause-conform c = (_, (refl, refl, inr (inr (inr (inr (inr refl))))), refl)
+returns-clause-conform c = (_, (refl, refl, inr (inr (inr (inr (inr (inl refl)))))), (refl, when_left_out refl))
+
+pub returns-clause-conform_all : goal.returns-clause-conform_all
+unfolding clap_on_literals
+returns-clause-conform_all c = (_, (refl, refl, inr (inr (inr (inr (inr (inl refl)))))), (refl, when_given refl))
+
+pub returns-clause-wide : goal.returns-clause-wide
+unfolding clap_on_literals
+returns-clause-wide c = (
+  _,
+  (refl, refl, inr (inr (inl refl))),
+  (refl, first_left_out refl (first_left_out refl (first_given refl)), when_left_out refl),
+)
 
 pub returns-clause-serve : goal.returns-clause-serve
 unfolding clap_on_literals
@@ -134,7 +255,7 @@ unfolding clap_on_literals
 returns-clause-trace c = (
   _,
   (refl, refl, inr (inr (inl refl))),
-  (refl, record { given = λ has. absurd cc; left_out = λ has. refl }, record { given = λ has. absurd cc; left_out = λ has. refl }),
+  (refl, first_left_out refl (first_left_out refl (first_left_out refl refl)), when_left_out refl),
 )
 
 pub returns-clause-seen_trace : goal.returns-clause-seen_trace
@@ -142,24 +263,26 @@ unfolding clap_on_literals
 returns-clause-seen_trace c = (
   _,
   (refl, refl, inr (inr (inl refl))),
-  (refl, record { given = λ has. absurd cc; left_out = λ has. refl }, record { given = λ has. refl; left_out = λ has. absurd cc }),
+  (refl, first_left_out refl (first_left_out refl (first_left_out refl refl)), when_given refl),
 )
 
 pub returns-clause-json : goal.returns-clause-json
 unfolding clap_on_literals
-returns-clause-json c = (
-  _,
-  (refl, refl, inr (inr (inl refl))),
-  (refl, record { given = λ has. refl; left_out = λ has. absurd cc }, record { given = λ has. absurd cc; left_out = λ has. refl }),
-)
+returns-clause-json c =
+    (_, (refl, refl, inr (inr (inl refl))), (refl, first_left_out refl (first_given refl), when_left_out refl))
 
 pub returns-clause-seen_json : goal.returns-clause-seen_json
 unfolding clap_on_literals
-returns-clause-seen_json c = (
-  _,
-  (refl, refl, inr (inr (inl refl))),
-  (refl, record { given = λ has. refl; left_out = λ has. absurd cc }, record { given = λ has. refl; left_out = λ has. absurd cc }),
-)
+returns-clause-seen_json c =
+    (_, (refl, refl, inr (inr (inl refl))), (refl, first_left_out refl (first_given refl), when_given refl))
+
+pub returns-clause-chrome : goal.returns-clause-chrome
+unfolding clap_on_literals
+returns-clause-chrome c = (_, (refl, refl, inr (inr (inl refl))), (refl, first_given refl, when_left_out refl))
+
+pub returns-clause-chrome_and_json : goal.returns-clause-chrome_and_json
+unfolding clap_on_literals
+returns-clause-chrome_and_json c = (_, (refl, refl, inr (inr (inl refl))), (refl, first_given refl, when_left_out refl))
 
 pub returns-clause-mistaken : goal.returns-clause-mistaken
 unfolding clap_on_literals
@@ -174,7 +297,10 @@ returns-clause-help c mistake =
             | inl help ↦ found.2 help
             | inr none ↦ none
           ]
-      | inr high ↦ let none = high.1.0.1.0 in cc
+      | inr wrong ↦ elim wrong [
+        | inl high ↦ let none = high.1.0.1.0 in cc
+        | inr unknown ↦ let none = unknown.1.1.0 in cc
+      ]
     ]
 
 pub returns-clause-version : goal.returns-clause-version
@@ -186,7 +312,10 @@ returns-clause-version c mistake =
             | inl version ↦ found.3 version
             | inr none ↦ none
           ]
-      | inr high ↦ let none = high.1.0.1.0 in cc
+      | inr wrong ↦ elim wrong [
+        | inl high ↦ let none = high.1.0.1.0 in cc
+        | inr unknown ↦ let none = unknown.1.1.0 in cc
+      ]
     ]
 
 pub returns-clause-other_report : goal.returns-clause-other_report
@@ -213,7 +342,10 @@ unfolding clap_on_literals
 returns-clause-none c mistake =
     elim mistake [
       | inl found ↦ found.1
-      | inr high ↦ let none = high.1.0.1.1 in cc
+      | inr wrong ↦ elim wrong [
+        | inl high ↦ let none = high.1.0.1.1 in cc
+        | inr unknown ↦ let none = unknown.1.1.1 in cc
+      ]
     ]
 
 pub returns-clause-understood : goal.returns-clause-understood

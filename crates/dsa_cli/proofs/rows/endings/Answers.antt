@@ -18,10 +18,12 @@ pub returns-clause-quiet_where_nobody_reads : goal.returns-clause-quiet_where_no
 returns-clause-quiet_where_nobody_reads c out old new closed is = is.1 refl closed
 
 pub returns-clause-not_quiet : goal.returns-clause-not_quiet
-returns-clause-not_quiet c out old new unclosed = ((λ status. absurd (omega (arith, status))), (λ status closed. absurd cc))
+returns-clause-not_quiet c out old new unclosed =
+    ((λ status. absurd (omega (arith, status))), (λ status closed. absurd cc))
 
 pub returns-clause-mistaken_words : goal.returns-clause-mistaken_words
-returns-clause-mistaken_words c out old new = ((λ status. absurd (omega (arith, status))), (λ status closed. absurd (omega (arith, status))))
+returns-clause-mistaken_words c out old new =
+    ((λ status. absurd (omega (arith, status))), (λ status closed. absurd (omega (arith, status))))
 
 pub returns-clause-refused : goal.returns-clause-refused
 returns-clause-refused c out is = is refl
@@ -60,7 +62,8 @@ pub returns-clause-end : goal.returns-clause-end
 returns-clause-end c status out out' err err' is = (is.same_output, is.same_writer, is.quiet, is.statuses)
 
 pub returns-clause-ended : goal.returns-clause-ended
-returns-clause-ended c out old new unclosed taken is = subst (λ fault. new.writer.now ≡ old.writer.now ++ fault_line fault) is.1 (is.2 unclosed taken)
+returns-clause-ended c out old new unclosed taken is =
+    subst (λ fault. new.writer.now ≡ old.writer.now ++ fault_line fault) is.1 (is.2 unclosed taken)
 
 pub returns-clause-first_line_refused : goal.returns-clause-first_line_refused
 returns-clause-first_line_refused c had left old new is =

@@ -1,6 +1,9 @@
 use Rattle.dsa_cli.proofs.rows.names_of_reports.Goals as goal
-use Rattle.std.proofs.Common.{codes, inl, inr, refl, lit<, arith}
+use Rattle.std.proofs.Common.{codes, Option, inl, inr, refl, lit<, ap, arith}
+use Rattle.std.specs.Option.{option_map_or}
+use Rattle.dsa_draw.specs.declared.range.StepRange.{StepRange}
 use Rattle.clap.proofs.OnLiterals.{clap_on_literals}
+use Rattle.dsa_cli.proofs.{Choices.{first_given, first_left_out, when_given, when_left_out}, LinesChosen.{none_chosen}}
 use Rattle.dsa_cli.proofs.ReportNames.{same_first, no_report}
 
 pub returns-clause-check : goal.returns-clause-check
@@ -25,31 +28,88 @@ returns-clause-draw c = inr (inr (inr (inr (inl refl))))
 
 pub returns-clause-conform : goal.returns-clause-conform
 unfolding clap_on_literals
-returns-clause-conform c = inr (inr (inr (inr (inr refl))))
+returns-clause-conform c = inr (inr (inr (inr (inr (inl refl)))))
+
+pub returns-clause-expand : goal.returns-clause-expand
+unfolding clap_on_literals
+returns-clause-expand c = inr (inr (inr (inr (inr (inr refl)))))
 
 pub returns-clause-asks_check : goal.returns-clause-asks_check
 unfolding clap_on_literals
-returns-clause-asks_check c = (refl, record { given = λ has. absurd cc; left_out = λ has. refl })
+returns-clause-asks_check c = (
+  refl,
+  record {
+    strict = when_left_out refl;
+    form = first_left_out refl (first_left_out refl (first_left_out refl refl));
+  },
+)
 
 pub returns-clause-asks_strict_check : goal.returns-clause-asks_strict_check
 unfolding clap_on_literals
-returns-clause-asks_strict_check c = (refl, record { given = λ has. refl; left_out = λ has. absurd cc })
+returns-clause-asks_strict_check c = (
+  refl,
+  record {
+    strict = when_given refl;
+    form = first_left_out refl (first_left_out refl (first_left_out refl refl));
+  },
+)
+
+pub returns-clause-asks_json_check : goal.returns-clause-asks_json_check
+unfolding clap_on_literals
+returns-clause-asks_json_check c = (
+  refl,
+  record {
+    strict = when_left_out refl;
+    form = first_given refl;
+  },
+)
+
+pub returns-clause-asks_source : goal.returns-clause-asks_source
+unfolding clap_on_literals
+returns-clause-asks_source c = (
+  refl,
+  record {
+    strict = when_left_out refl;
+    form = first_left_out refl (first_left_out refl (first_given refl));
+  },
+)
+
+pub returns-clause-asks_color : goal.returns-clause-asks_color
+unfolding clap_on_literals
+returns-clause-asks_color c = (
+  refl,
+  record {
+    strict = when_left_out refl;
+    form = first_left_out refl (first_given refl);
+  },
+)
+
+pub returns-clause-no_source : goal.returns-clause-no_source
+unfolding clap_on_literals
+returns-clause-no_source c asked =
+    let same = ((asked.1.form.left_out refl).left_out refl).given refl in
+    cc
 
 pub returns-clause-no_strict_check : goal.returns-clause-no_strict_check
 unfolding clap_on_literals
-returns-clause-no_strict_check c asked = let same = asked.1.left_out refl in cc
+returns-clause-no_strict_check c asked = let same = asked.1.strict.left_out refl in cc
 
 pub returns-clause-no_plain_check : goal.returns-clause-no_plain_check
 unfolding clap_on_literals
-returns-clause-no_plain_check c asked = let same = asked.1.given refl in cc
+returns-clause-no_plain_check c asked = let same = asked.1.strict.given refl in cc
 
 pub returns-clause-asks_trace : goal.returns-clause-asks_trace
 unfolding clap_on_literals
-returns-clause-asks_trace c = (
-  refl,
-  record { given = λ has. absurd cc; left_out = λ has. refl },
-  record { given = λ has. absurd cc; left_out = λ has. refl },
-)
+returns-clause-asks_trace c =
+    (refl, first_left_out refl (first_left_out refl (first_left_out refl refl)), when_left_out refl)
+
+pub returns-clause-asks_chrome : goal.returns-clause-asks_chrome
+unfolding clap_on_literals
+returns-clause-asks_chrome c = (refl, first_given refl, when_given refl)
+
+pub returns-clause-no_chrome : goal.returns-clause-no_chrome
+unfolding clap_on_literals
+returns-clause-no_chrome c asked = let same = (asked.1.left_out refl).given refl in cc
 
 pub returns-clause-serve : goal.returns-clause-serve
 returns-clause-serve c named = no_report (codes "serve") (lit< tt) (lit< tt) named
@@ -60,39 +120,55 @@ returns-clause-other_report c asked = omega (arith, same_first asked.0)
 
 pub returns-clause-asks_json : goal.returns-clause-asks_json
 unfolding clap_on_literals
-returns-clause-asks_json c = (
-  refl,
-  record { given = λ has. refl; left_out = λ has. absurd cc },
-  record { given = λ has. absurd cc; left_out = λ has. refl },
-)
+returns-clause-asks_json c = (refl, first_left_out refl (first_given refl), when_left_out refl)
 
 pub returns-clause-asks_seen_json : goal.returns-clause-asks_seen_json
 unfolding clap_on_literals
-returns-clause-asks_seen_json c = (
-  refl,
-  record { given = λ has. refl; left_out = λ has. absurd cc },
-  record { given = λ has. refl; left_out = λ has. absurd cc },
-)
+returns-clause-asks_seen_json c = (refl, first_left_out refl (first_given refl), when_given refl)
 
 pub returns-clause-asks_explain : goal.returns-clause-asks_explain
 unfolding clap_on_literals
-returns-clause-asks_explain c = (refl, record { given = λ has. absurd cc; left_out = λ has. refl })
+returns-clause-asks_explain c =
+    (refl, none_chosen _ refl refl refl, when_left_out refl)
 
 pub returns-clause-asks_draw : goal.returns-clause-asks_draw
 unfolding clap_on_literals
-returns-clause-asks_draw c = (refl, record { given = λ has. absurd cc; left_out = λ has. refl })
+returns-clause-asks_draw c = (refl, refl, when_left_out refl)
+
+pub returns-clause-asks_steps : goal.returns-clause-asks_steps
+unfolding clap_on_literals
+returns-clause-asks_steps c = (refl, refl, when_left_out refl)
+
+pub returns-clause-no_other_steps : goal.returns-clause-no_other_steps
+unfolding clap_on_literals
+returns-clause-no_other_steps c asked =
+    omega (arith, ap (λ (o : Option StepRange). option_map_or (λ range. range.first) o 0) asked.1)
+
+pub returns-clause-asks_conform : goal.returns-clause-asks_conform
+unfolding clap_on_literals
+returns-clause-asks_conform c = (refl, when_left_out refl)
+
+pub returns-clause-asks_all : goal.returns-clause-asks_all
+unfolding clap_on_literals
+returns-clause-asks_all c = (refl, when_given refl)
+
+pub returns-clause-asks_wide : goal.returns-clause-asks_wide
+unfolding clap_on_literals
+returns-clause-asks_wide c =
+    (refl, first_left_out refl (first_left_out refl (first_given refl)), when_left_out refl)
 
 pub returns-clause-asks_seen : goal.returns-clause-asks_seen
 unfolding clap_on_literals
-returns-clause-asks_seen c = (refl, record { given = λ has. refl; left_out = λ has. absurd cc })
+returns-clause-asks_seen c =
+    (refl, none_chosen _ refl refl refl, when_given refl)
 
 pub returns-clause-no_own_run : goal.returns-clause-no_own_run
 unfolding clap_on_literals
-returns-clause-no_own_run c asked = let same = asked.1.given refl in cc
+returns-clause-no_own_run c asked = let same = asked.2.given refl in cc
 
 pub returns-clause-no_seen_run : goal.returns-clause-no_seen_run
 unfolding clap_on_literals
-returns-clause-no_seen_run c asked = let same = asked.1.left_out refl in cc
+returns-clause-no_seen_run c asked = let same = asked.2.left_out refl in cc
 
 pub returns-clause-other_run : goal.returns-clause-other_run
 unfolding clap_on_literals
@@ -100,8 +176,10 @@ returns-clause-other_run c asked = let same = asked.2.given refl in cc
 
 pub returns-clause-no_table : goal.returns-clause-no_table
 unfolding clap_on_literals
-returns-clause-no_table c asked = let same = asked.1.given refl in cc
+returns-clause-no_table c asked = let same = (asked.1.left_out refl).given refl in cc
 
 pub returns-clause-other_form : goal.returns-clause-other_form
 unfolding clap_on_literals
-returns-clause-other_form c asked = let same = asked.1.left_out refl in cc
+returns-clause-other_form c asked =
+    let same = ((asked.1.left_out refl).left_out refl).left_out refl in
+    cc

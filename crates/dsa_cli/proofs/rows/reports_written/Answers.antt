@@ -2,6 +2,8 @@ use Rattle.dsa_cli.proofs.rows.reports_written.Goals as goal
 use Rattle.dsa_cli.specs.declared.reports.Report.TheVariants as report
 use Rattle.dsa_cli.specs.declared.reports.Run.TheVariants.{Own}
 use Rattle.clap.proofs.OnLiterals.{clap_on_literals}
+use Rattle.dsa_cli.proofs.Choices.{when_left_out}
+use Rattle.dsa_cli.specs.Worked.{whole_drawing}
 use Rattle.std.proofs.Common.{Some, None, refl, sym, append-nil}
 use Rattle.dsa_scenario.specs.declared.faults.ScenarioFault.TheVariants.{BadCaps}
 
@@ -15,8 +17,8 @@ returns-clause-first_bytes c bytes text is short more =
 pub returns-clause-drawing : goal.returns-clause-drawing
 unfolding clap_on_literals
 returns-clause-drawing c bytes text is short = (
-  report.Draw Own,
-  (refl, record { given = λ has. absurd cc; left_out = λ has. refl }),
+  report.Draw whole_drawing Own,
+  (refl, refl, when_left_out refl),
   (bytes, text, (sym (append-nil bytes), refl, short), (refl, is), refl),
 )
 
@@ -26,8 +28,8 @@ returns-clause-reported c found had left held holds is = (is.1, is.2)
 pub returns-clause-drawing_cut : goal.returns-clause-drawing_cut
 unfolding clap_on_literals
 returns-clause-drawing_cut c bytes text is short more = (
-  report.Draw Own,
-  (refl, record { given = λ has. absurd cc; left_out = λ has. refl }),
+  report.Draw whole_drawing Own,
+  (refl, refl, when_left_out refl),
   (bytes, text, None, 3, (sym (append-nil bytes), refl, short), (refl, is), more, refl),
 )
 

@@ -36,7 +36,8 @@ answered : (receipts history : List Step) (call : Step) → length history ≤ 2
     → is_some (after_answer (device_of (caps_for (load 1 2 3 4)) 20 history) call.event call.reply) ≡ true
     → IsCallAnswered (caps_for (load 1 2 3 4)) 20 receipts call
 answered receipts history call within legal seen may =
-    answered_after (caps_for (load 1 2 3 4)) 20 receipts history call.event call.reply refl (lit≤ tt) within legal seen may
+    answered_after (caps_for (load 1 2 3 4)) 20 receipts history call.event call.reply refl (lit≤ tt) within legal seen
+    may
 
 -- ---- the client
 
@@ -75,9 +76,12 @@ client_ran = (
       calls = three_moves;
       receipts = refl;
       in_order = three (NextSubmission (caps_for (load 1 2 3 4)) 20 (fresh 0) script)
-          (answered [] (setup_steps (load 1 2 3 4)) first (lit≤ tt) refl (lit≤ tt) refl, λ d. refl)
-          (answered (first ∷ []) (setup_steps (load 1 2 3 4) ++ first ∷ []) second (lit≤ tt) refl (lit≤ tt) refl, λ d. refl) (
-            answered (first ∷ second ∷ []) (setup_steps (load 1 2 3 4) ++ first ∷ second ∷ []) third (lit≤ tt) refl (lit≤ tt) refl,
+          (answered [] (setup_steps (load 1 2 3 4)) first (lit≤ tt) refl (lit≤ tt) refl, λ d. refl) (
+            answered (first ∷ []) (setup_steps (load 1 2 3 4) ++ first ∷ []) second (lit≤ tt) refl (lit≤ tt) refl,
+            λ d. refl,
+          ) (
+            answered (first ∷ second ∷ []) (setup_steps (load 1 2 3 4) ++ first ∷ second ∷ []) third (lit≤ tt) refl
+                (lit≤ tt) refl,
             λ d. refl,
           );
       stops = three (λ before call. found_full before ≡ 0) refl refl refl;
@@ -97,7 +101,8 @@ client_ran = (
 
 -- what it submitted
 all_submitted : All (λ step. step.event ≡ submission_of 0) three_moves
-all_submitted = All-from_recursion (λ (step : Step). step.event ≡ submission_of 0) three_moves (refl, (refl, (refl, tt)))
+all_submitted =
+    All-from_recursion (λ (step : Step). step.event ≡ submission_of 0) three_moves (refl, (refl, (refl, tt)))
 
 -- ---- an engine
 
@@ -128,16 +133,20 @@ module _ (e cell name : ℕ) where
       (in_order_more next (Some taken ∷ []) (Some no_fetch)
       (in_order_more next [] (Some taken) (in_order_none next) one) two) three) last
 
-  engine_ran : IsCallAnswered (caps_for (load 1 2 3 4)) 20 [] taken → IsCallAnswered (caps_for (load 1 2 3 4)) 20 (taken ∷ []) no_fetch
-      → IsCallAnswered (caps_for (load 1 2 3 4)) 20 (taken ∷ []) no_start → IsCallAnswered (caps_for (load 1 2 3 4)) 20 (taken ∷ []) ended
-      → RanAsEngine (caps_for (load 1 2 3 4)) 20 (load 1 2 3 4) e (record { number = e; receipts = entry_worked_off e cell name })
+  engine_ran : IsCallAnswered (caps_for (load 1 2 3 4)) 20 [] taken
+      → IsCallAnswered (caps_for (load 1 2 3 4)) 20 (taken ∷ []) no_fetch
+      → IsCallAnswered (caps_for (load 1 2 3 4)) 20 (taken ∷ []) no_start
+      → IsCallAnswered (caps_for (load 1 2 3 4)) 20 (taken ∷ []) ended
+      → RanAsEngine (caps_for (load 1 2 3 4)) 20 (load 1 2 3 4) e
+      (record { number = e; receipts = entry_worked_off e cell name })
   engine_ran one two three last = (
     record { turns = 4; ended = TurnsOut },
     record {
       turns = Some taken ∷ Some no_fetch ∷ Some no_start ∷ Some ended ∷ [];
       number = refl;
       receipts = refl;
-      in_order = four (NextTurn (caps_for (load 1 2 3 4)) 20 (fresh e) engine_script) (one, refl) (two, refl) (three, refl)
+      in_order = four (NextTurn (caps_for (load 1 2 3 4)) 20 (fresh e) engine_script) (one, refl) (two, refl)
+          (three, refl)
           (last, refl);
       stops = four (λ before turn. found_full (calls_of before) ≡ 0) refl refl refl refl;
       count = refl;
@@ -211,13 +220,15 @@ returns-clause-seats c = record {
   client_steps = All-from_recursion (λ (seat : SeatLog). length seat.receipts ≤ 4) client_seats_after (lit≤ tt, tt);
   engine_steps = All-from_recursion (λ (seat : SeatLog). length seat.receipts ≤ 4) engine_seats_after
       (lit≤ tt, (lit≤ tt, tt));
-  numbers = λ client other less. below_one (λ n. (slice_index_or client_seats_after n other).number ≡ n) refl client less;
+  numbers = λ client other less.
+      below_one (λ n. (slice_index_or client_seats_after n other).number ≡ n) refl client less;
   submitted = λ client other less. below_one
       (λ n. All (λ step. step.event ≡ submission_of n) (slice_index_or client_seats_after n other).receipts)
       all_submitted client less;
   setup = refl;
   client_runs = λ client other less. below_one
-      (λ n. RanAsClient (caps_for (load 1 2 3 4)) 20 (load 1 2 3 4) n (slice_index_or client_seats_after n other)) client_ran
+      (λ n. RanAsClient (caps_for (load 1 2 3 4)) 20 (load 1 2 3 4) n (slice_index_or client_seats_after n other))
+      client_ran
       client less;
   engine_runs = λ engine other less. below_two
       (λ n. RanAsEngine (caps_for (load 1 2 3 4)) 20 (load 1 2 3 4) n (slice_index_or engine_seats_after n other))

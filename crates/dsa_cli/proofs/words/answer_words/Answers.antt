@@ -1,14 +1,14 @@
 use Rattle.dsa_cli.proofs.words.answer_words.Goals as goal
 use Rattle.dsa_cli.specs.declared.options.Asked.TheVariants as asked
 use Rattle.dsa_cli.specs.declared.threads.ThreadsFault.TheVariants as threads_fault
-use Rattle.std.proofs.Common.{◌≡◌, ◌∙◌, inl, inr, rules, subst, sym, map, string_bytes, arith}
+use Rattle.std.proofs.Common.{◌≡◌, ◌∙◌, inl, inr, rules, subst, sym, ap, map, string_bytes, arith}
 use Rattle.clap.specs.{Values.{kind_of}, Kinds.{IsAmong}}
 use Rattle.dsa_scenario.specs.declared.faults.ScenarioFault.TheVariants.{OutOfMemory}
 use Rattle.dsa_scenario.specs.declared.watched.WatchedWriter.{WatchedWriter}
 use Rattle.dsa_scenario.specs.Watched.{watched_contents}
 use Rattle.dsa_serve.{specs.Dialogue.{IsStopped}, proofs.Stops.{unread_memory}}
-use Rattle.dsa_cli.specs.CommandLine.{AsksFor, IsAskedBy}
-use Rattle.dsa_cli.proofs.ReportCommands.{asks_high, named, not_asked, same_found}
+use Rattle.dsa_cli.specs.{CommandLine.{AsksFor, IsAskedBy, wrong_value_text}, Endings.{IsRefusal}}
+use Rattle.dsa_cli.proofs.ReportCommands.{asks_high, asks_wrong, named, not_asked, same_found}
 use Rattle.dsa_cli.proofs.PlainRuns.{plain_written, plain_stopped}
 
 pub returns-in-Err-clause-mistake : goal.returns-in-Err-clause-mistake
@@ -24,7 +24,14 @@ returns-in-Ok-HighThreshold-clause-mistake g c two =
     let asks : AsksFor (map string_bytes c.args.words.now) (asked.HighThreshold c.in-Ok-HighThreshold.load) =
     subst (λ a. AsksFor (map string_bytes c.args.words.now) a) c.in-Ok-HighThreshold.field-0-is
     c.in-Ok-HighThreshold.ensures.asked in
-    inr (c.in-Ok-HighThreshold.load, asks)
+    inr (inl (c.in-Ok-HighThreshold.load, asks))
+
+pub returns-in-Ok-WrongValue-clause-mistake : goal.returns-in-Ok-WrongValue-clause-mistake
+returns-in-Ok-WrongValue-clause-mistake g c two =
+    let asks : AsksFor (map string_bytes c.args.words.now) (asked.WrongValue c.in-Ok-WrongValue.value) =
+    subst (λ a. AsksFor (map string_bytes c.args.words.now) a) c.in-Ok-WrongValue.field-0-is
+    c.in-Ok-WrongValue.ensures.asked in
+    inr (inr (c.in-Ok-WrongValue.value, asks))
 
 pub returns-in-Ok-Threads-clause-threads : goal.returns-in-Ok-Threads-clause-threads
 returns-in-Ok-Threads-clause-threads g c zero rows named =
@@ -152,7 +159,9 @@ pub returns-in-Err-clause-done : goal.returns-in-Err-clause-done
 returns-in-Err-clause-done g c plain zero =
     elim c.in-Err.ensures.faults [
       | inl memory ↦ absurd (omega (arith, (c.show.ensures.memory memory).0, zero))
-      | inr among ↦ absurd (subst (λ faults. IsAmong (kind_of c.in-Err.error) faults) (named _ _ (λ empty. let never = c.in-Err.ensures.none empty in cc) plain).0 among)
+      | inr among ↦
+          let named = named _ _ (λ empty. let never = c.in-Err.ensures.none empty in cc) plain in
+          absurd (subst (λ faults. IsAmong (kind_of c.in-Err.error) faults) named.0 among)
     ]
 
 pub returns-in-Err-clause-failed : goal.returns-in-Err-clause-failed
@@ -164,7 +173,9 @@ returns-in-Err-clause-failed g c plain one =
             ((tt, (λ other. kept.1), (λ e. absurd cc)), λ e. absurd cc),
             c.show.ensures.told memory,
           )
-      | inr among ↦ absurd (subst (λ faults. IsAmong (kind_of c.in-Err.error) faults) (named _ _ (λ empty. let never = c.in-Err.ensures.none empty in cc) plain).0 among)
+      | inr among ↦
+          let named = named _ _ (λ empty. let never = c.in-Err.ensures.none empty in cc) plain in
+          absurd (subst (λ faults. IsAmong (kind_of c.in-Err.error) faults) named.0 among)
     ]
 
 pub returns-in-Err-clause-help_failed : goal.returns-in-Err-clause-help_failed
@@ -201,4 +212,51 @@ returns-in-Err-clause-high_threshold g c rows named high =
           let kept = c.show.ensures.memory memory in
           inr (kept.0, kept.1, c.show.ensures.told memory)
       | inr among ↦ absurd (subst (λ faults. IsAmong (kind_of c.in-Err.error) faults) named.0 among)
+    ]
+
+pub returns-in-Ok-Scenario-clause-wrong_value : goal.returns-in-Ok-Scenario-clause-wrong_value
+returns-in-Ok-Scenario-clause-wrong_value g c value wrong =
+    let is = asks_wrong _ _ value wrong c.in-Ok-Scenario.ensures.asked in
+    let same = sym c.in-Ok-Scenario.field-0-is ∙ is.1 in
+    absurd cc
+
+pub returns-in-Ok-Report-clause-wrong_value : goal.returns-in-Ok-Report-clause-wrong_value
+returns-in-Ok-Report-clause-wrong_value g c value wrong =
+    let is = asks_wrong _ _ value wrong c.in-Ok-Report.ensures.asked in
+    let same = sym c.in-Ok-Report.field-0-is ∙ is.1 in
+    absurd cc
+
+pub returns-in-Ok-Serve-clause-wrong_value : goal.returns-in-Ok-Serve-clause-wrong_value
+returns-in-Ok-Serve-clause-wrong_value g c value wrong =
+    let is = asks_wrong _ _ value wrong c.in-Ok-Serve.ensures.asked in
+    let same = sym c.in-Ok-Serve.field-0-is ∙ is.1 in
+    absurd cc
+
+pub returns-in-Ok-Threads-clause-wrong_value : goal.returns-in-Ok-Threads-clause-wrong_value
+returns-in-Ok-Threads-clause-wrong_value g c value wrong =
+    let is = asks_wrong _ _ value wrong c.in-Ok-Threads.ensures.asked in
+    let same = sym c.in-Ok-Threads.field-0-is ∙ is.1 in
+    absurd cc
+
+pub returns-in-Ok-HighThreshold-clause-wrong_value : goal.returns-in-Ok-HighThreshold-clause-wrong_value
+returns-in-Ok-HighThreshold-clause-wrong_value g c value wrong =
+    let is = asks_wrong _ _ value wrong c.in-Ok-HighThreshold.ensures.asked in
+    let same = sym c.in-Ok-HighThreshold.field-0-is ∙ is.1 in
+    absurd cc
+
+pub returns-in-Ok-WrongValue-clause-wrong_value : goal.returns-in-Ok-WrongValue-clause-wrong_value
+returns-in-Ok-WrongValue-clause-wrong_value g c value wrong =
+    let is = asks_wrong _ _ value wrong c.in-Ok-WrongValue.ensures.asked in
+    let same = sym c.in-Ok-WrongValue.field-0-is ∙ is.1 in
+    let given : c.in-Ok-WrongValue.value ≡ is.0 = cc in
+    inl (subst (λ text. IsRefusal c.refuse_value.result g.E.Write.contents c.args.err.now c.refuse_value.new.err text)
+    (ap wrong_value_text given ∙ is.2) c.refuse_value.ensures)
+
+pub returns-in-Err-clause-wrong_value : goal.returns-in-Err-clause-wrong_value
+returns-in-Err-clause-wrong_value g c value wrong =
+    elim c.in-Err.ensures.faults [
+      | inl memory ↦
+          let kept = c.show.ensures.memory memory in
+          inr (kept.0, kept.1, c.show.ensures.told memory)
+      | inr among ↦ absurd (subst (λ faults. IsAmong (kind_of c.in-Err.error) faults) wrong.1.0 among)
     ]

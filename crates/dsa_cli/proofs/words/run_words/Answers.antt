@@ -122,3 +122,13 @@ returns-clause-high_threshold g c rows named high =
           ap (λ watched. watched.writer.now) memory.1 ∙ c.new-out.ensures.writer in
           inr (memory.0, search rules)
     ]
+
+pub returns-clause-wrong_value : goal.returns-clause-wrong_value
+returns-clause-wrong_value g c value wrong =
+    elim (c.answer_words.ensures.wrong_value value wrong) [
+      | inl refused ↦ inl refused.status
+      | inr memory ↦
+          let same : c.answer_words.new.out.writer.now ≡ c.args.out.now =
+          ap (λ watched. watched.writer.now) memory.1 ∙ c.new-out.ensures.writer in
+          inr (memory.0, search rules)
+    ]

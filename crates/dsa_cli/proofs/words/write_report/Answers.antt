@@ -1,5 +1,5 @@
 use Rattle.dsa_cli.proofs.words.write_report.Goals as goal
-use Rattle.dsa_cli.specs.declared.reports.Report.TheVariants.{Check, Explain, Trace, Count, Draw, Conform}
+use Rattle.dsa_cli.specs.declared.reports.Report.TheVariants.{Check, Explain, Trace, Chrome, Count, Draw, Conform, Expand}
 use Rattle.dsa_cli.specs.declared.reports.Run.TheVariants.{Own, Seen}
 use Rattle.std.proofs.Common.{Err, ap, inl, inr, refl}
 use Rattle.dsa_scenario.specs.Watched.{watched_contents}
@@ -23,8 +23,8 @@ pub returns-in-Own-clause-failed : goal.returns-in-Own-clause-failed
 returns-in-Own-clause-failed g c one =
     let failed = c.write_text-in-Own.ensures.failed one in
     rw (c.in-Explain.is, c.in-Own.is)
-    (ended_whole (IsReportCutShort (Explain Own)) (IsReportBegun (Explain Own)) _ _
-    (watched_contents g.O.Write.contents) _ _ failed)
+    (ended_whole (IsReportCutShort (Explain c.in-Explain.selection Own))
+    (IsReportBegun (Explain c.in-Explain.selection Own)) _ _ (watched_contents g.O.Write.contents) _ _ failed)
 
 pub returns-in-Seen-clause-done : goal.returns-in-Seen-clause-done
 returns-in-Seen-clause-done g c zero = rw (c.in-Explain.is, c.in-Seen.is) (c.write_text-in-Seen.ensures.done zero)
@@ -33,8 +33,8 @@ pub returns-in-Seen-clause-failed : goal.returns-in-Seen-clause-failed
 returns-in-Seen-clause-failed g c one =
     let failed = c.write_text-in-Seen.ensures.failed one in
     rw (c.in-Explain.is, c.in-Seen.is)
-    (ended_whole (IsReportCutShort (Explain Seen)) (IsReportBegun (Explain Seen)) _ _
-    (watched_contents g.O.Write.contents) _ _ failed)
+    (ended_whole (IsReportCutShort (Explain c.in-Explain.selection Seen))
+    (IsReportBegun (Explain c.in-Explain.selection Seen)) _ _ (watched_contents g.O.Write.contents) _ _ failed)
 
 pub returns-in-Ok-clause-done : goal.returns-in-Ok-clause-done
 returns-in-Ok-clause-done g c zero =
@@ -63,13 +63,36 @@ returns-in-Err-clause-failed g c one =
     )
 
 pub returns-in-Seen-run-clause-done : goal.returns-in-Seen-run-clause-done
-returns-in-Seen-run-clause-done g c zero = rw (c.in-Trace.is, c.in-Seen-run.is) (c.write_text-in-Seen-run.ensures.done zero)
+returns-in-Seen-run-clause-done g c zero =
+    rw (c.in-Trace.is, c.in-Seen-run.is) (c.write_text-in-Seen-run.ensures.done zero)
 
 pub returns-in-Seen-run-clause-failed : goal.returns-in-Seen-run-clause-failed
 returns-in-Seen-run-clause-failed g c one =
     let failed = c.write_text-in-Seen-run.ensures.failed one in
     rw (c.in-Trace.is, c.in-Seen-run.is)
     (ended_whole (IsReportCutShort (Trace c.in-Trace.form Seen)) (IsReportBegun (Trace c.in-Trace.form Seen)) _ _
+    (watched_contents g.O.Write.contents) _ _ failed)
+
+pub returns-in-Own-run-2-clause-done : goal.returns-in-Own-run-2-clause-done
+returns-in-Own-run-2-clause-done g c zero =
+    rw (c.in-Chrome.is, c.in-Own-run-2.is) (c.write_text-in-Own-run-2.ensures.done zero)
+
+pub returns-in-Own-run-2-clause-failed : goal.returns-in-Own-run-2-clause-failed
+returns-in-Own-run-2-clause-failed g c one =
+    let failed = c.write_text-in-Own-run-2.ensures.failed one in
+    rw (c.in-Chrome.is, c.in-Own-run-2.is)
+    (ended_whole (IsReportCutShort (Chrome Own)) (IsReportBegun (Chrome Own)) _ _
+    (watched_contents g.O.Write.contents) _ _ failed)
+
+pub returns-in-Seen-run-2-clause-done : goal.returns-in-Seen-run-2-clause-done
+returns-in-Seen-run-2-clause-done g c zero =
+    rw (c.in-Chrome.is, c.in-Seen-run-2.is) (c.write_text-in-Seen-run-2.ensures.done zero)
+
+pub returns-in-Seen-run-2-clause-failed : goal.returns-in-Seen-run-2-clause-failed
+returns-in-Seen-run-2-clause-failed g c one =
+    let failed = c.write_text-in-Seen-run-2.ensures.failed one in
+    rw (c.in-Chrome.is, c.in-Seen-run-2.is)
+    (ended_whole (IsReportCutShort (Chrome Seen)) (IsReportBegun (Chrome Seen)) _ _
     (watched_contents g.O.Write.contents) _ _ failed)
 
 pub returns-in-Count-clause-done : goal.returns-in-Count-clause-done
@@ -82,24 +105,26 @@ returns-in-Count-clause-failed g c one =
     (ended_whole (IsReportCutShort Count) (IsReportBegun Count) _ _
     (watched_contents g.O.Write.contents) _ _ failed)
 
-pub returns-in-Own-run-2-clause-done : goal.returns-in-Own-run-2-clause-done
-returns-in-Own-run-2-clause-done g c zero = rw (c.in-Draw.is, c.in-Own-run-2.is) (c.write_text-in-Own-run-2.ensures.done zero)
+pub returns-in-Own-run-3-clause-done : goal.returns-in-Own-run-3-clause-done
+returns-in-Own-run-3-clause-done g c zero =
+    rw (c.in-Draw.is, c.in-Own-run-3.is) (c.write_text-in-Own-run-3.ensures.done zero)
 
-pub returns-in-Own-run-2-clause-failed : goal.returns-in-Own-run-2-clause-failed
-returns-in-Own-run-2-clause-failed g c one =
-    let failed = c.write_text-in-Own-run-2.ensures.failed one in
-    rw (c.in-Draw.is, c.in-Own-run-2.is)
-    (ended_whole (IsReportCutShort (Draw Own)) (IsReportBegun (Draw Own)) _ _
+pub returns-in-Own-run-3-clause-failed : goal.returns-in-Own-run-3-clause-failed
+returns-in-Own-run-3-clause-failed g c one =
+    let failed = c.write_text-in-Own-run-3.ensures.failed one in
+    rw (c.in-Draw.is, c.in-Own-run-3.is)
+    (ended_whole (IsReportCutShort (Draw c.in-Draw.drawing Own)) (IsReportBegun (Draw c.in-Draw.drawing Own)) _ _
     (watched_contents g.O.Write.contents) _ _ failed)
 
-pub returns-in-Seen-run-2-clause-done : goal.returns-in-Seen-run-2-clause-done
-returns-in-Seen-run-2-clause-done g c zero = rw (c.in-Draw.is, c.in-Seen-run-2.is) (c.write_text-in-Seen-run-2.ensures.done zero)
+pub returns-in-Seen-run-3-clause-done : goal.returns-in-Seen-run-3-clause-done
+returns-in-Seen-run-3-clause-done g c zero =
+    rw (c.in-Draw.is, c.in-Seen-run-3.is) (c.write_text-in-Seen-run-3.ensures.done zero)
 
-pub returns-in-Seen-run-2-clause-failed : goal.returns-in-Seen-run-2-clause-failed
-returns-in-Seen-run-2-clause-failed g c one =
-    let failed = c.write_text-in-Seen-run-2.ensures.failed one in
-    rw (c.in-Draw.is, c.in-Seen-run-2.is)
-    (ended_whole (IsReportCutShort (Draw Seen)) (IsReportBegun (Draw Seen)) _ _
+pub returns-in-Seen-run-3-clause-failed : goal.returns-in-Seen-run-3-clause-failed
+returns-in-Seen-run-3-clause-failed g c one =
+    let failed = c.write_text-in-Seen-run-3.ensures.failed one in
+    rw (c.in-Draw.is, c.in-Seen-run-3.is)
+    (ended_whole (IsReportCutShort (Draw c.in-Draw.drawing Seen)) (IsReportBegun (Draw c.in-Draw.drawing Seen)) _ _
     (watched_contents g.O.Write.contents) _ _ failed)
 
 pub returns-in-Conform-clause-done : goal.returns-in-Conform-clause-done
@@ -109,5 +134,15 @@ pub returns-in-Conform-clause-failed : goal.returns-in-Conform-clause-failed
 returns-in-Conform-clause-failed g c one =
     let failed = c.write_text-in-Conform.ensures.failed one in
     rw c.in-Conform.is
-    (ended_whole (IsReportCutShort Conform) (IsReportBegun Conform) _ _
+    (ended_whole (IsReportCutShort (Conform c.in-Conform.conformance))
+    (IsReportBegun (Conform c.in-Conform.conformance)) _ _ (watched_contents g.O.Write.contents) _ _ failed)
+
+pub returns-in-Expand-clause-done : goal.returns-in-Expand-clause-done
+returns-in-Expand-clause-done g c zero = rw c.in-Expand.is (c.write_text-in-Expand.ensures.done zero)
+
+pub returns-in-Expand-clause-failed : goal.returns-in-Expand-clause-failed
+returns-in-Expand-clause-failed g c one =
+    let failed = c.write_text-in-Expand.ensures.failed one in
+    rw c.in-Expand.is
+    (ended_whole (IsReportCutShort Expand) (IsReportBegun Expand) _ _
     (watched_contents g.O.Write.contents) _ _ failed)

@@ -1,5 +1,6 @@
 use Rattle.dsa_conform.proofs.rows.allowed.Goals as goal
-use Rattle.std.proofs.Common.{◌≡◌, ◌<◌, ℕ, zero, suc, true, false, List, [], ◌∷◌, codes, bytes_eq, Ok, refl, ap, arith, lit<}
+use Rattle.std.proofs.Common.{◌≡◌, ◌<◌, ℕ, zero, suc, true, false, List, [], ◌∷◌, codes, bytes_eq, Ok, refl, ap, arith}
+use Rattle.std.proofs.Common.{lit<}
 use Rattle.std.specs.{Prelude.{Contains}, Fmt.{digits}}
 use Rattle.std.proofs.lemmas.List.Elements.{All-nil, All-cons, All-head, All-tail}
 use Rattle.dsa_book.specs.declared.event.Event.TheVariants.{Dispatch}
@@ -56,7 +57,7 @@ pub returns-clause-word : goal.returns-clause-word
 returns-clause-word c = record { answers = refl; after = _; leads = refl }
 
 pub returns-clause-other_word : goal.returns-clause-other_word
-returns-clause-other_word c is = absurd (let other = is.answers in cc)
+returns-clause-other_word c is = let other = is.answers in grind (arith, other)
 
 pub returns-clause-all : goal.returns-clause-all
 unfolding digits

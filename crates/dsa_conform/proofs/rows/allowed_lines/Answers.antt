@@ -4,21 +4,23 @@ use Rattle.dsa_book.specs.declared.answer.PollAnswer.TheVariants as poll
 use Rattle.dsa_book.specs.declared.event.Event.TheVariants as event
 use Rattle.std.proofs.Common.{◌≡◌, ℕ, true, false, List, [], ◌∷◌, Ok, ap, bytes_eq, codes, inl, inr, lit≤, refl}
 use Rattle.std.specs.{Prelude.{take}, Fmt.{digits}}
-use Rattle.dsa_regs.specs.declared.Fault.TheVariants.{BadCommand}
-use Rattle.dsa_scenario.specs.declared.{actions.Action.TheVariants.{Ask, Refuse}, run.Record.{Record, TheVariants.{Refused}}}
+use Rattle.dsa_scenario.specs.Worked.{no_command}
+use Rattle.dsa_scenario.specs.declared.{actions.Action.TheVariants.{Ask, Refuse}}
+use Rattle.dsa_scenario.specs.declared.{run.Record.{Record, TheVariants.{Refused}}}
 use Rattle.dsa_scenario.specs.{Run.{event_of, AreOf}, Steps.{standing}, Worked.{smallest_caps, stepped}}
 use Rattle.dsa_explain_lines.specs.Parts.{part_of}
 use Rattle.dsa_conform.specs.{Allowed.{IsAllowed}, Lines.{allowed_line}, Run.{IsShownRun}}
 use Rattle.dsa_conform.specs.Worked.{caps_of_three_queues, from_first, from_second, observed_of_two_queues}
 use Rattle.dsa_conform.specs.Seen.{nothing_seen}
 use Rattle.dsa_conform.specs.Worked.{records_of_two_queues, smallest_device_at_first}
-use Rattle.dsa_conform.proofs.{RowRuns.{all_lines, is_nothing, nothing, not_answered_so, only_nothing}, RowWays.{to_one}}
+use Rattle.dsa_conform.proofs.{RowRuns.{all_lines, is_nothing, nothing, not_answered_so, only_nothing}}
+use Rattle.dsa_conform.proofs.{RowWays.{to_one}}
 use Rattle.dsa_conform.proofs.{RowRuns.{smallest_replay, word_leads}, RowTakes.{second_allowed}}
 
 pub returns-clause-line : goal.returns-clause-line
 unfolding digits
 returns-clause-line c = record {
-  records = Refused BadCommand ∷ [];
+  records = Refused no_command ∷ [];
   run = record { of_actions = (refl, tt); run = refl; shown = (refl, tt) };
   allowed = record { answers = refl; after = _; leads = refl };
   told = refl;
@@ -53,8 +55,8 @@ returns-clause-no_reason c is = not_without is.records is.run.of_actions is.told
 pub returns-clause-all : goal.returns-clause-all
 unfolding digits
 returns-clause-all c =
-    all_lines smallest_caps 9 ((Refuse BadCommand, nothing_seen) ∷ []) (Ask event.Poll) smallest_device_at_first
-    (Ok event.Poll) nothing (Refused BadCommand ∷ []) (smallest_replay 9 (lit≤ tt))
+    all_lines smallest_caps 9 ((Refuse no_command, nothing_seen) ∷ []) (Ask event.Poll) smallest_device_at_first
+    (Ok event.Poll) nothing (Refused no_command ∷ []) (smallest_replay 9 (lit≤ tt))
     (record { of_actions = (refl, tt); run = refl; shown = (refl, tt) }) word_leads is_nothing only_nothing
 
 pub returns-clause-another : goal.returns-clause-another

@@ -1,6 +1,7 @@
 use Rattle.dsa_conform.proofs.rows.beginning_alike.Goals as goal
 use Rattle.dsa_book.specs.declared.event.Event.TheVariants as event
-use Rattle.std.proofs.Common.{◌≡◌, ◌∙◌, ◌==◌, ℕ, zero, suc, Bool, true, false, cond, length, List, [], ◌∷◌, ◌++◌, Option, Some}
+use Rattle.std.proofs.Common.{◌≡◌, ◌∙◌, ◌==◌, ℕ, zero, suc, Bool, true, false, cond, length, List, [], ◌∷◌, ◌++◌}
+use Rattle.std.proofs.Common.{Option, Some}
 use Rattle.std.proofs.Common.{None, Ok, ap, arith, codes, refl}
 use Rattle.std.specs.Fmt.{digits}
 use Rattle.dsa_book.specs.{declared.answer.NotedError.{NotedError}, State.{State}}

@@ -1,18 +1,22 @@
 use Rattle.dsa_conform.proofs.rows.devices_added.Goals as goal
 use Rattle.dsa_book.specs.declared.event.Event.TheVariants as event
-use Rattle.std.proofs.Common.{◌≡◌, ◌∙◌, ◌⊎◌, ◌<◌, ℕ, true, false, List, [], ◌∷◌, Ok, ap, arith, bytes_eq, codes, inl, inr, length}
+use Rattle.std.proofs.Common.{◌≡◌, ◌∙◌, ◌⊎◌, ◌<◌, ℕ, true, false, List, [], ◌∷◌, Ok, ap, arith, bytes_eq, codes, inl}
+use Rattle.std.proofs.Common.{inr, length}
 use Rattle.std.proofs.Common.{lit<, lit≤, map, refl, sym, subst}
 use Rattle.std.specs.{Prelude.{Contains, take}, Fmt.{digits}}
 use Rattle.std.proofs.lemmas.List.Elements.{All-nil, All-cons}
 use Rattle.dsa_base.specs.Lists.{In}
-use Rattle.dsa_scenario.{specs.{declared.{actions.Action.{Action}, run.Record.{Record}}, Lines.{record_text}}, proofs.Walks.{opened}}
+use Rattle.dsa_scenario.{specs.{declared.{actions.Action.{Action}, run.Record.{Record}}, Lines.{record_text}}}
+use Rattle.dsa_scenario.{proofs.Walks.{opened}}
 use Rattle.dsa_scenario.specs.Worked.{smallest_caps}
-use Rattle.dsa_conform.specs.{declared.way.Way.{Way}, Allowed.{IsAllowed, AreAllowed, queue_taken}, Run.{AreRead, IsFollowedTo}}
+use Rattle.dsa_conform.specs.{declared.way.Way.{Way}, Allowed.{IsAllowed, AreAllowed, queue_taken}}
+use Rattle.dsa_conform.specs.{Run.{AreRead, IsFollowedTo}}
 use Rattle.dsa_conform.specs.{Seen.{Seen}, Ways.{IsAmong, IsWayBy}}
 use Rattle.dsa_conform.specs.Worked.{answered, smallest_device_at_first, way_at_first}
 use Rattle.dsa_conform.proofs.{Objects.{not_first}, RowRuns.{nothing, is_nothing, only_nothing, smallest_replay}}
 use Rattle.dsa_conform.proofs.RowTakes.{none_allowed}
-use Rattle.dsa_conform.proofs.RowWays.{to_one, to_two, itself, not_one, not_alike, not_in_other, other_capacity, poll_covered, none_active}
+use Rattle.dsa_conform.proofs.RowWays.{to_one, to_two, itself, not_one, not_alike, not_in_other, other_capacity}
+use Rattle.dsa_conform.proofs.RowWays.{poll_covered, none_active}
 
 pub returns-clause-added : goal.returns-clause-added
 returns-clause-added c t = record {

@@ -6,7 +6,8 @@ use Rattle.dsa_store.specs.declared.entry.Entry.{Entry}
 use Rattle.dsa_scenario.specs.{declared.{actions.Action.TheVariants.{Ask}, run.Record.{Record}}, Steps.{standing}}
 use Rattle.dsa_scenario.specs.Worked.{smallest_caps}
 use Rattle.dsa_device.specs.Running.{Running, running_at_first}
-use Rattle.dsa_conform.specs.{declared.way.Way.{Way}, Run.{IsFollowedTo, IsShownRun}, Ways.{AreDevicesAlike, IsAmong, RunFrom}}
+use Rattle.dsa_conform.specs.{declared.way.Way.{Way}, Run.{IsFollowedTo, IsShownRun}}
+use Rattle.dsa_conform.specs.{Ways.{AreDevicesAlike, IsAmong, RunFrom}}
 use Rattle.dsa_conform.specs.Worked.{smallest_device_at_first, way_at_first, after_a_take, caps_of_three_queues}
 use Rattle.dsa_conform.specs.Seen.{nothing_seen}
 use Rattle.dsa_conform.specs.Worked.{records_of_two_queues, observed_of_two_queues, from_second}

@@ -3,7 +3,7 @@ use Rattle.dsa_book.specs.declared.event.Event.TheVariants as event
 use Rattle.std.proofs.Common.{◌≡◌, ◌∙◌, ◌⊎◌, true, false, [], ◌∷◌, Ok, refl, ap, sym, arith, bytes_eq, codes, inl, inr}
 use Rattle.std.specs.{Prelude.{String, string_bytes}, declared.{alloc.Global.{Global}, vec.Vec.{Vec}}, Fmt.{digits}}
 use Rattle.dsa_base.specs.Lists.{In}
-use Rattle.dsa_regs.specs.declared.Fault.TheVariants.{BadCommand}
+use Rattle.dsa_scenario.specs.Worked.{no_command}
 use Rattle.dsa_scenario.specs.{declared.actions.Action.{Action, TheVariants.{Ask, Refuse}}, Worked.{smallest_caps}}
 use Rattle.dsa_scenario.specs.{declared.run.Record.{Record}, Run.{event_of}}
 use Rattle.dsa_conform.specs.{declared.{told.Told.{Told}, way.Way.{Way}}, Run.{IsFollowedTo}, Seen.{Seen}}
@@ -11,10 +11,11 @@ use Rattle.dsa_conform.specs.Ways.{HasOne, IsOneGone, IsTold}
 use Rattle.dsa_conform.specs.Worked.{answered, smallest_device_at_first, told_allowing, way_at_first}
 use Rattle.dsa_conform.specs.Seen.{nothing_seen}
 use Rattle.dsa_conform.proofs.{Objects.{not_first}, RowRuns.{nothing, is_nothing}, RowTakes.{none_allowed}}
-use Rattle.dsa_conform.proofs.RowWays.{to_one, to_two, not_one, not_two, not_alike, not_in_other, poll_covered, none_covered}
+use Rattle.dsa_conform.proofs.RowWays.{to_one, to_two, not_one, not_two, not_alike, not_in_other, poll_covered}
+use Rattle.dsa_conform.proofs.RowWays.{none_covered}
 
 abbrev rejected : Action × Seen
-rejected = (Refuse BadCommand, nothing_seen)
+rejected = (Refuse no_command, nothing_seen)
 
 abbrev polled : Action × Seen
 polled = (Ask event.Poll, answered (codes "nothing"))

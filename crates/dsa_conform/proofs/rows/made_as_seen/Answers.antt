@@ -4,7 +4,7 @@ use Rattle.std.specs.Fmt.{digits}
 use Rattle.std.proofs.Common.{◌≡◌, ℕ, inl, inr, List, [], ◌∷◌, refl, ap, ◌∙◌, subst, codes, map, length, arith, lit≤}
 use Rattle.std.proofs.lemmas.Option.{slice_get_within}
 use Rattle.serde_json.{specs.Data.{string}, proofs.OnLiterals.{serde_json_on_literals}}
-use Rattle.dsa_regs.specs.declared.Fault.TheVariants.{BadCommand}
+use Rattle.dsa_scenario.specs.Worked.{no_command}
 use Rattle.dsa_scenario.specs.declared.actions.Action.{Action, TheVariants.{Ask, Refuse}}
 use Rattle.dsa_scenario.specs.Steps.{AreLinesOfSteps, IsTextOfRun, visits}
 use Rattle.dsa_scenario.specs.Worked.{object_of, poll_step, smallest_caps}
@@ -62,7 +62,7 @@ returns-clause-unread c h = not_first [] h.observed h.read
 
 -- a word that is no command, of which was seen what its refusal does not show
 abbrev refused_otherwise : List (Action × Seen)
-refused_otherwise = (Refuse BadCommand, answered (codes "nothing")) ∷ []
+refused_otherwise = (Refuse no_command, answered (codes "nothing")) ∷ []
 
 none_shown : (text : List ℕ) (observed : List (Action × Seen))
     (count : ℕ) → observed ≡ refused_otherwise → count ≡ length observed → OfRun text observed count → ⊥
@@ -76,7 +76,7 @@ none_shown text observed count read all h =
 
 pub returns-clause-not_shown : goal.returns-clause-not_shown
 returns-clause-not_shown c text h =
-    let read = one_read (Refuse BadCommand, answered (codes "nothing")) h.observed h.read in
+    let read = one_read (Refuse no_command, answered (codes "nothing")) h.observed h.read in
     elim h.farthest [
       | inl all ↦ absurd (none_shown text h.observed h.count read all h.of_run)
       | inr next ↦

@@ -1,6 +1,7 @@
 use Rattle.dsa_conform.proofs.rows.reports.Goals as goal
-use Rattle.std.proofs.Common.{◌≡◌, [], ◌∷◌, refl, codes, ap}
-use Rattle.std.specs.Prelude.{bytes_eq}
+use Rattle.std.proofs.Common.{◌≡◌, ℕ, suc, List, [], ◌∷◌, ◌++◌, flat_map, refl, codes, ap}
+use Rattle.std.specs.Prelude.{bytes_eq, replicate}
+use Rattle.dsa_conform.specs.Forms.{words_of_difference}
 use Rattle.std.proofs.lemmas.Bool.{false≢true}
 use Rattle.dsa_conform.proofs.RowForms.{front, after_feed, inside_line, line_before, single_line, word_of_lines}
 use Rattle.dsa_conform.proofs.RowForms.{word_of_step, word_of_seen, word_of_allowed}
@@ -75,3 +76,29 @@ returns-clause-before_bad_step c = λ h. false≢true (ap (λ l. bytes_eq l []) 
 
 pub returns-clause-not_json : goal.returns-clause-not_json
 returns-clause-not_json c = λ h. h
+
+-- the last line of a document with one step that differs
+abbrev one_differs : List ℕ
+one_differs = codes "differs: 1 step of 1, 1 answer seen\n"
+
+pub returns-clause-all : goal.returns-clause-all
+returns-clause-all c = (
+  0,
+  [],
+  line_before (codes "step ") (codes "0: poll") (codes "seen: " ∷ codes "allowed: " ∷ codes "differs: " ∷ [])
+      (codes "seen: full\nallowed: nothing\n" ++ one_differs) refl
+      (line_before (codes "seen: ") (codes "full") (codes "allowed: " ∷ codes "differs: " ∷ [])
+      (codes "allowed: nothing\n" ++ one_differs) refl
+      (line_before (codes "allowed: ") (codes "nothing") (codes "differs: " ∷ []) one_differs refl
+      (line_before (codes "differs: ") (codes "1 step of 1, 1 answer seen") [] [] refl refl))),
+)
+
+pub returns-clause-all_conform : goal.returns-clause-all_conform
+returns-clause-all_conform c = line_before (codes "conforms: ") (codes "1 step, 0 answers seen") [] [] refl refl
+
+pub returns-clause-no_differences : goal.returns-clause-no_differences
+returns-clause-no_differences c = λ h. false≢true
+    (ap (λ l. bytes_eq l (codes "step ")) (word_of_lines (codes "step ")
+    (codes "seen: " ∷ (replicate (suc h.0) (codes "allowed: ")
+    ++ flat_map (λ allowed. words_of_difference (suc allowed)) h.1 ++ codes "differs: " ∷ []))
+    one_differs h.2))

@@ -1,5 +1,6 @@
 use Rattle.dsa_conform.proofs.rows.told_lines.Goals as goal
-use Rattle.std.proofs.Common.{◌≡◌, ◌≢◌, ◌≤◌, ◌⊎◌, ℕ, List, [], ◌∷◌, ap, arith, codes, inl, inr, lit≤, map, refl, sym, subst}
+use Rattle.std.proofs.Common.{◌≡◌, ◌≢◌, ◌≤◌, ◌⊎◌, ℕ, List, [], ◌∷◌, ap, arith, codes, inl, inr, lit≤, map, refl, sym}
+use Rattle.std.proofs.Common.{subst}
 use Rattle.std.proofs.Common.{◌∙◌, true, false, bytes_eq}
 use Rattle.std.specs.{Prelude.{String, string_bytes}, declared.{alloc.Global.{Global}, vec.Vec.{Vec}}, Fmt.{digits}}
 use Rattle.dsa_base.specs.Lists.{In}

@@ -11,6 +11,7 @@ use Rattle.dsa_book.specs.declared.{answer.{Reply.{Reply}, WriteAnswer.TheVarian
 use Rattle.dsa_book.specs.Machine.{full_reply}
 use Rattle.dsa_book.proofs.EqualReplies.{equal-replies}
 use Rattle.dsa_device.{specs.Running.{Running, running_at_first, after_answer}, proofs.Steps.{answered_by_cases}}
+use Rattle.dsa_scenario.specs.Worked.{no_command}
 use Rattle.dsa_scenario.specs.declared.{actions.Action.{Action, TheVariants.{Ask, Refuse}}, run.Record.{Record}}
 use Rattle.dsa_scenario.specs.declared.run.Record.TheVariants.{Stepped, Refused}
 use Rattle.dsa_scenario.specs.{Run.{answered_by, Leads}, Steps.{standing}}
@@ -81,12 +82,12 @@ returns-clause-after_one c =
 pub returns-clause-second : goal.returns-clause-second
 unfolding digits
 returns-clause-second c = record {
-  observed = (Refuse BadCommand, nothing_seen) ∷ (Ask event.Poll, answered (codes "active")) ∷ [];
+  observed = (Refuse no_command, nothing_seen) ∷ (Ask event.Poll, answered (codes "active")) ∷ [];
   read = refl;
   here = _;
   at = refl;
-  differs = differs smallest_caps 9 ((Refuse BadCommand, nothing_seen) ∷ []) (Ask event.Poll, answered (codes "active")) 1
-      smallest_device_at_first (Ok event.Poll) nothing (Refused BadCommand ∷ []) (smallest_replay 9 (lit≤ tt))
+  differs = differs smallest_caps 9 ((Refuse no_command, nothing_seen) ∷ []) (Ask event.Poll, answered (codes "active")) 1
+      smallest_device_at_first (Ok event.Poll) nothing (Refused no_command ∷ []) (smallest_replay 9 (lit≤ tt))
       (record { of_actions = (refl, tt); run = refl; shown = (refl, tt) }) word_leads is_nothing only_nothing refl;
 }
 
@@ -136,7 +137,7 @@ returns-clause-unread c is = not_first [] is.observed is.read
 
 pub returns-clause-not_shown : goal.returns-clause-not_shown
 returns-clause-not_shown c is =
-    let read = one_read (Refuse BadCommand, answered (codes "nothing")) is.observed is.read in
+    let read = one_read (Refuse no_command, answered (codes "nothing")) is.observed is.read in
     let run = subst (λ observed. IsShownRun smallest_caps 9 observed is.records) read is.run in
     not_answered_so is.records run.of_actions run.shown
 

@@ -8,7 +8,8 @@ use Rattle.std.specs.{Prelude.{unwrap_or}, Fmt.{digits}}
 use Rattle.dsa_base.specs.Lists.{In}
 use Rattle.dsa_scenario.specs.{declared.run.Record.{Record}, Worked.{stepped}}
 use Rattle.dsa_conform.specs.{Allowed.{IsAllowed}, Seen.{shows}, Ways.{IsTakenAsSeen, queue_of_record}}
-use Rattle.dsa_conform.specs.Worked.{answered, from_first, from_second, after_all, smallest_device_at_first, way_at_first}
+use Rattle.dsa_conform.specs.Worked.{answered, from_first, from_second, after_all, smallest_device_at_first}
+use Rattle.dsa_conform.specs.Worked.{way_at_first}
 use Rattle.dsa_conform.specs.Seen.{nothing_seen}
 use Rattle.dsa_conform.proofs.{RowRuns.{only_nothing}, RowWays.{none_covered, poll_covered}}
 use Rattle.dsa_conform.proofs.RowTakes.{either_entry, first_allowed, second_allowed, none_allowed}

@@ -6,9 +6,9 @@ use Rattle.dsa_draw.specs.Engines.{engines_text, engines_end}
 abbrev pub invariant-loop-engine : goal.invariant-loop-engine
 invariant-loop-engine l = record {
   text : string_bytes l.text
-      ++ engines_text l.steps l.top (range_with_len l.engine (l.engines - l.engine)) l.moments l.bars
+      ++ engines_text l.extent l.top (range_with_len l.engine (l.engines - l.engine)) l.moments l.bars
       ≡ string_bytes l.initial.text
-      ++ engines_text l.steps l.initial.top (range_with_len 0 l.engines) l.moments l.bars;
-  end : engines_end l.steps l.top (range_with_len l.engine (l.engines - l.engine)) l.moments l.bars
-      ≡ engines_end l.steps l.initial.top (range_with_len 0 l.engines) l.moments l.bars;
+      ++ engines_text l.extent l.initial.top (range_with_len 0 l.engines) l.moments l.bars;
+  end : engines_end l.extent l.top (range_with_len l.engine (l.engines - l.engine)) l.moments l.bars
+      ≡ engines_end l.extent l.initial.top (range_with_len 0 l.engines) l.moments l.bars;
 }

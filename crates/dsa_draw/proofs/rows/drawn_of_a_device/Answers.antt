@@ -3,40 +3,48 @@ use Rattle.std.proofs.Common.{◌≡◌, ◌∙◌, ℕ, List, [], ◌∷◌, �
 use Rattle.std.specs.declared.alloc.Global.{Global}
 use Rattle.dsa_scenario.specs.Lines.{record_text}
 use Rattle.dsa_draw.specs.declared.{moment.Moment.{Moment}, run.Story.{Story}}
-use Rattle.dsa_draw.specs.Drawings.{AreMoments, drawing_text, step_count, story_bands_text, story_engines_text}
+use Rattle.dsa_draw.specs.Ranges.{all_steps}
+use Rattle.dsa_draw.specs.Drawings.{AreMoments, drawing_text, extent_of, shown_of, story_bands_text, story_engines_text}
 use Rattle.dsa_draw.specs.{Drawings.{story_height}, Moments.{IsMomentOf}, Pages.{foot_text, head_text, legend_text}}
 use Rattle.dsa_draw.specs.{Columns.{columns_text}, Rows.{rows_above_text}}
 use Rattle.dsa_draw.specs.Worked.{device_of_a_drawing, drawn_on_literals, idle_step, moment_of_a_device}
 use Rattle.dsa_draw.specs.Worked.{story_of_a_device}
 
-is_moment : (memory : Global) → IsMomentOf device_of_a_drawing (idle_step 1) (moment_of_a_device memory)
-is_moment memory = record { of_entry = refl; queues = refl; groups = refl; batch = refl; ended = refl }
+is_moment : (memory : Global) → IsMomentOf 3 device_of_a_drawing (idle_step 1) (moment_of_a_device memory)
+is_moment memory = record { number = refl; of_entry = refl; phase = refl; queues = refl; groups = refl; batch = refl; desc = refl; ended = refl }
 
 counts_differ : (memory : Global)
-    → IsMomentOf device_of_a_drawing (idle_step 1) (record (moment_of_a_device memory) { ended = 1 }) → ⊥
+    → IsMomentOf 3 device_of_a_drawing (idle_step 1) (record (moment_of_a_device memory) { ended = 1 }) → ⊥
 counts_differ memory is = omega (arith, is.ended)
 
 -- the number of columns is in the page's width
 first_digits : (moments : List Moment) (height : ℕ) (columns rows bands engines legend : List ℕ)
     → AreMoments [] moments
-    → get_or (head_text (step_count moments) height ++ columns ++ rows ++ bands ++ engines ++ legend ++ foot_text) 48 0
+    → get_or (head_text (extent_of all_steps moments) height ++ columns ++ rows ++ bands ++ engines ++ legend ++ foot_text) 48 0
     ≡ 54
 unfolding drawn_on_literals
 first_digits [] height columns rows bands engines legend are = refl
 first_digits (moment ∷ moments) height columns rows bands engines legend are = absurd are
 
-first_digits_of : (story : Story) → AreMoments [] story.moments.items → get_or (drawing_text story) 48 0 ≡ 54
-first_digits_of story are = first_digits story.moments.items (story_height story)
-    (columns_text (story_height story) 0 story.moments.items)
-    (rows_above_text (step_count story.moments.items) story.fates.items story.moments.items)
-    (story_bands_text story) (story_engines_text story) (legend_text (story_height story)) are
+first_digits_of : (story : Story) → AreMoments [] story.moments.items → get_or (drawing_text all_steps story) 48 0 ≡ 54
+first_digits_of story are = first_digits story.moments.items (story_height all_steps story)
+    (columns_text (story_height all_steps story) 0 (shown_of all_steps story))
+    (rows_above_text (extent_of all_steps story.moments.items) story.fates.items story.moments.items)
+    (story_bands_text all_steps story) (story_engines_text all_steps story)
+    (legend_text (story_height all_steps story)) are
 
-first_digits_of_a_step : (memory : Global) → get_or (drawing_text (story_of_a_device memory)) 48 0 ≡ 56
+first_digits_of_a_step : (memory : Global) → get_or (drawing_text all_steps (story_of_a_device memory)) 48 0 ≡ 56
 unfolding drawn_on_literals
 first_digits_of_a_step memory = refl
 
 pub returns-clause-moment : goal.returns-clause-moment
 returns-clause-moment c memory = is_moment memory
+
+pub returns-clause-other_number : goal.returns-clause-other_number
+returns-clause-other_number c memory is = omega (arith, is.number)
+
+pub returns-clause-other_phase : goal.returns-clause-other_phase
+returns-clause-other_phase c memory is = grind (arith, is.phase)
 
 pub returns-clause-other_entry : goal.returns-clause-other_entry
 returns-clause-other_entry c memory is =
@@ -51,6 +59,9 @@ returns-clause-other_groups c memory is = omega (arith, ap length is.groups)
 
 pub returns-clause-other_batch : goal.returns-clause-other_batch
 returns-clause-other_batch c memory is = grind (arith, is.batch)
+
+pub returns-clause-other_descriptor : goal.returns-clause-other_descriptor
+returns-clause-other_descriptor c memory is = grind (arith, is.desc)
 
 pub returns-clause-other_count : goal.returns-clause-other_count
 returns-clause-other_count c memory is = counts_differ memory is

@@ -1,7 +1,7 @@
 use Rattle.dsa_explain_rows.proofs.effects.of_commands_that_lack_one_thing.Goals as goal
 use Rattle.std.proofs.Common.{◌≡◌, ℕ, zero, suc, ◌<◌, [], ◌∷◌, ap, arith, false, lit≤, refl, subst, sym, true, ⊎_elim}
 use Rattle.std.specs.Prelude.{List, map, not, option_map, unwrap_or, ◌&&◌, ◌==◌}
-use Rattle.dsa_regs.specs.declared.Command.{Command, TheVariants.{AbortAll, AbortPasid, AbortWq, DisableDevice, DisableWq, DrainAll, DrainPasid, DrainWq, EnableDevice, EnableWq, ResetDevice, ResetWq}}
+use Rattle.dsa_regs.specs.declared.Command.{Command}
 use Rattle.dsa_regs.specs.declared.Deed.{Deed, TheVariants.{Abort, Disable, Drain, Enable, Reset}}
 use Rattle.dsa_regs.specs.declared.Phase.TheVariants.{Off, On}
 use Rattle.dsa_regs.specs.declared.QueueConfig.{QueueConfig}
@@ -66,32 +66,19 @@ numbered : (number other : ℕ) (pairs : List HeldEntry) → 0 < other
 numbered number other [] more is = let none : 0 ≡ other = is in absurd (omega (arith, more, none))
 numbered number other (pair ∷ pairs) more is = is
 
--- no command has this deed and this number, 3 or 4, where neither Drain All nor Abort All does
-none_of : (deed : Deed) (n : ℕ) → 2 < n → n < 5
-    → (deed_of DrainAll ≡ deed → number_of_command DrainAll ≡ n → ⊥)
-    → (deed_of AbortAll ≡ deed → number_of_command AbortAll ≡ n → ⊥)
-    → (command : Command) → deed_of command ≡ deed → number_of_command command ≡ n → ⊥
-none_of deed n more less drain abort EnableDevice is number = omega (arith, more, number)
-none_of deed n more less drain abort DisableDevice is number = omega (arith, more, number)
-none_of deed n more less drain abort DrainAll is number = drain is number
-none_of deed n more less drain abort AbortAll is number = abort is number
-none_of deed n more less drain abort ResetDevice is number = omega (arith, less, number)
-none_of deed n more less drain abort (EnableWq queue) is number = omega (arith, less, number)
-none_of deed n more less drain abort (DisableWq queues) is number = omega (arith, less, number)
-none_of deed n more less drain abort (DrainWq queues) is number = omega (arith, less, number)
-none_of deed n more less drain abort (AbortWq queues) is number = omega (arith, less, number)
-none_of deed n more less drain abort (ResetWq queues) is number = omega (arith, less, number)
-none_of deed n more less drain abort (DrainPasid pasid) is number = omega (arith, less, number)
-none_of deed n more less drain abort (AbortPasid pasid) is number = omega (arith, less, number)
+-- no command that aborts has the number of Drain All, nor does one that resets have that of Abort All
+none_aborts_as_3 : (command : Command) → deed_of command ≡ Abort → number_of_command command ≡ 3 → ⊥
+none_aborts_as_3 command is number = grind (arith, is, number)
+
+none_resets_as_4 : (command : Command) → deed_of command ≡ Reset → number_of_command command ≡ 4 → ⊥
+none_resets_as_4 command is number = grind (arith, is, number)
 
 pub returns-clause-no_abort : goal.returns-clause-no_abort
-returns-clause-no_abort c is = none_of Abort 3 (lit≤ tt) (lit≤ tt)
-    (λ deed number. grind (arith, deed)) (λ deed number. omega (arith, number)) is.command is.deed
+returns-clause-no_abort c is = none_aborts_as_3 is.command is.deed
     (numbered (number_of_command is.command) 3 _ (lit≤ tt) (ap (λ (s : State). first_number s.work.fates) is.after))
 
 pub returns-clause-no_reset : goal.returns-clause-no_reset
-returns-clause-no_reset c is = none_of Reset 4 (lit≤ tt) (lit≤ tt)
-    (λ deed number. omega (arith, number)) (λ deed number. grind (arith, deed)) is.command is.deed
+returns-clause-no_reset c is = none_resets_as_4 is.command is.deed
     (numbered (number_of_command is.command) 4 _ (lit≤ tt) (ap (λ (s : State). first_number s.work.fates) is.after))
 
 not_off : (queue : ℕ) → has_queue (one_group_in On (On ∷ On ∷ [])) queue ≡ true

@@ -1,10 +1,12 @@
 use Rattle.dsa_serve.proofs.front.read_first.{Given.{Over}, Goals.{In_ok-count}}
 use Rattle.dsa_serve.proofs.front.read_first.Goals as goal
-use Rattle.std.proofs.Common.{◌≢◌, ◌<◌, ◌≤◌, ◌^◌, ◌++◌, length, take, arith, length-append, ◌∙◌, rules}
-use Rattle.std.proofs.lemmas.{Result.{err_from_is_err_and}, List.Elements.{All-append}}
+use Rattle.std.proofs.Common.{◌≡◌, ◌<◌, ◌≤◌, ◌^◌, ◌++◌, ap, sym, length, take, arith, length-append, ◌∙◌, rules}
+use Rattle.std.proofs.lemmas.Result.{err_from_is_err_and}
 use Rattle.dsa_scenario.specs.Counted.{HasGiven, IsAskedFor}
 use Rattle.dsa_scenario.proofs.GivenBytes.{HasGiven-once, HasGiven-trans, asked_once_more}
-use Rattle.dsa_serve.proofs.{Lines.{no_feed, front_cut}, Stops.{memory_before, first_read_stops, cut_stops, long_stops}}
+use Rattle.dsa_serve.specs.{declared.ending.Inside.TheVariants.{Brackets}, Input.{inside_after}}
+use Rattle.dsa_serve.proofs.Ends.{depth_within, front_cut, inside_more, no_end-append}
+use Rattle.dsa_serve.proofs.Stops.{memory_before, first_read_stops, cut_stops, long_stops}
 
 -- what this read and those before it gave, and for how much of it the reader was asked
 given_so_far : (g : Over) (c : In_ok-count g)
@@ -51,7 +53,7 @@ pub returns-in_err-count-clause-stopped : goal.returns-in_err-count-clause-stopp
 returns-in_err-count-clause-stopped g c =
     let p = err_from_is_err_and c.from_residual.result c.from_residual.ensures.1 in
     rw (p.1, p.2) (λ held. first_read_stops _ _ _ _ held c.reads.first.items _ c.reads.invariant.taken
-    c.reads.invariant.line (omega (arith, c.reads-test.true, c.len.ensures, c.reads.first.ok.0))
+    c.reads.invariant.unended (omega (arith, c.reads-test.true, c.len.ensures, c.reads.first.ok.0))
     c.in_err-count.ensures.bytes c.in_err-count.ensures.faults)
 
 pub returns-in_err-cut-clause-stopped : goal.returns-in_err-cut-clause-stopped
@@ -59,14 +61,16 @@ returns-in_err-cut-clause-stopped g c =
     let p = err_from_is_err_and c.from_residual-in_err-cut.result c.from_residual-in_err-cut.ensures.1 in
     let read = (goal.at.returns-in_err-cut-clause-stopped g c).In_ok-count in
     rw (p.1, p.2) (λ held. cut_stops _ _ _ held c.reads.first.items (take c.in_ok-count.count c.read_once.new.chunk)
-    c.in-Some.at _ c.in-Some.ensures c.reads.invariant.line (short g read) (fits g read) (given_so_far g read).0
+    c.in-Some.at _ (rw c.reads.invariant.so_far at c.in-Some.ensures.1) c.reads.invariant.unended (short g read)
+    (fits g read) (given_so_far g read).0
     c.in_err-cut.ensures.faults)
 
 pub returns-in-Some-clause-bytes : goal.returns-in-Some-clause-bytes
 returns-in-Some-clause-bytes g c =
     let piece = take c.in_ok-count.count c.read_once.new.chunk in
     let it = c.in_ok-cut.ensures in
-    let cut = front_cut c.reads.first.items piece c.in-Some.at c.in-Some.ensures c.reads.invariant.line in (
+    let cut = front_cut c.reads.first.items piece c.in-Some.at c.reads.invariant.unended
+    (rw c.reads.invariant.so_far at c.in-Some.ensures.1) in (
       c.reads.first.items ++ piece,
       (given_so_far g (goal.at.returns-in-Some-clause-bytes g c).In_ok-count).0,
       rw it.first cut.0,
@@ -79,7 +83,7 @@ returns-in_err-extend_from_slice-clause-stopped g c =
     c.from_residual-in_err-extend_from_slice.ensures.1 in
     let read = (goal.at.returns-in_err-extend_from_slice-clause-stopped g c).In_ok-count in
     rw (p.1, p.2) (λ held. memory_before _ _ _ held c.reads.first.items
-    (take c.in_ok-count.count c.read_once.new.chunk) (given_so_far g read).0 c.reads.invariant.line (short g read)
+    (take c.in_ok-count.count c.read_once.new.chunk) (given_so_far g read).0 c.reads.invariant.unended (short g read)
     (fits g read))
 
 pub returns-in_err-cut-clause-reader : goal.returns-in_err-cut-clause-reader
@@ -108,7 +112,8 @@ reads-preserved g c =
     let read = (goal.at.reads-preserved g c).In_ok-count in
     let given = given_so_far g read in
     let each = asked_for_each g read (omega (arith, c.if-count-eq0.false)) in
-    let all = length-append c.reads.first.items (take c.in_ok-count.count c.read_once.new.chunk) in
+    let piece = take c.in_ok-count.count c.read_once.new.chunk in
+    let all = length-append c.reads.first.items piece in
     record {
       room = omega (arith, c.reads.invariant.room, c.read_once.auto.chunk);
       same_reader = it.same_reader ∙ c.reads.invariant.same_reader;
@@ -116,11 +121,24 @@ reads-preserved g c =
       well = it.failed.1 ∙ c.reads.invariant.well;
       taken = rw items given.0;
       given = rw items given.1;
-      line = rw items (All-append (λ b. b ≢ 10) _ _ c.reads.invariant.line (no_feed _ c.in_default.ensures));
+      unended = rw items (no_end-append (Brackets 0) c.reads.first.items piece c.reads.invariant.unended
+          (rw c.reads.invariant.so_far at c.in_default.ensures.0));
+      so_far = rw items (c.in_default.ensures.1 ∙ ap (λ i. inside_after i piece) c.reads.invariant.so_far
+          ∙ sym (inside_more (Brackets 0) c.reads.first.items piece));
       few = rw items (omega (arith, short g read, fits g read, c.reads.auto.chunk, all));
     }
 
 pub returns-clause-stopped : goal.returns-clause-stopped
 returns-clause-stopped g c held =
-    long_stops _ _ _ held c.reads.first.items c.reads.invariant.taken c.reads.invariant.line
+    long_stops _ _ _ held c.reads.first.items c.reads.invariant.taken c.reads.invariant.unended
     (omega (arith, c.reads-test.false, c.len.ensures, c.reads.first.ok.0)) c.reads.invariant.few
+
+pub end_in-requires : goal.end_in-requires
+end_in-requires g c =
+    let read = (goal.at.end_in-requires g c).In_ok-count in
+    rw c.reads.invariant.so_far (omega (
+      arith,
+      depth_within (Brackets 0) c.reads.first.items,
+      short g read,
+      fits g read,
+    ))

@@ -1,7 +1,8 @@
 use Rattle.dsa_serve.proofs.front.read_first.Given as goal
 use Rattle.std.{proofs.Common.{◌≡◌, ◌-◌, ◌+◌, ◌^◌, ◌<◌, ◌≤◌, length, vec_len}, specs.Io.KnownBytes.{Consumes}}
 use Rattle.dsa_scenario.specs.Counted.{counted_remaining, asked_of, given_of, has_reader_failed, IsSameReader}
-use Rattle.dsa_serve.specs.Input.{IsLine}
+use Rattle.dsa_serve.specs.declared.ending.Inside.TheVariants.{Brackets}
+use Rattle.dsa_serve.specs.Input.{IsUnended, inside_after}
 
 abbrev pub invariant-reads : goal.invariant-reads
 invariant-reads g l = record {
@@ -12,7 +13,8 @@ invariant-reads g l = record {
   taken : Consumes (counted_remaining g.R.Read.remaining l.initial.reader)
       (counted_remaining g.R.Read.remaining l.reader) l.first.items;
   given : given_of l.reader ≡ given_of l.initial.reader + length l.first.items;
-  line : IsLine l.first.items;
+  unended : IsUnended l.first.items;
+  so_far : l.inside ≡ inside_after (Brackets 0) l.first.items;
   few : length l.first.items ≤ 2 ^ 20 + length l.initial.chunk;
 }
 

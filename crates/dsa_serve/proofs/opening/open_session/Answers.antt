@@ -1,15 +1,18 @@
 use Rattle.dsa_serve.proofs.opening.open_session.Goals as goal
-use Rattle.std.proofs.Common.{◌≢◌, [], refl, append-nil, map, inl, inr}
+use Rattle.std.proofs.Common.{◌≡◌, ◌≢◌, ◌++◌, ◌∙◌, [], ap, length, sym, refl, map, inl, inr, string_bytes}
 use Rattle.std.proofs.lemmas.{Result.{err_from_is_err_and}, List.Elements.{All-nil}}
-use Rattle.dsa_scenario.proofs.Whole.{has_head}
+use Rattle.dsa_scenario.{proofs.Whole.{has_head}, specs.Lines.{line_of_text}}
+use Rattle.dsa_conform.proofs.Objects.{count_read}
 use Rattle.dsa_serve.proofs.FirstFaults.{first_fault}
-use Rattle.dsa_serve.specs.{Input.{IsLine}, Requests.{step_request}}
-use Rattle.dsa_serve.proofs.Sessions.{new_session}
+use Rattle.dsa_serve.specs.{Answers.{ready_text}, Input.{IsLine}, Requests.{step_request}}
+use Rattle.dsa_serve.proofs.Sessions.{new_session, taken}
 
 pub returns-clause-ok : goal.returns-clause-ok
 returns-clause-ok c blank =
     let head = c.in-Some.head in
     let made = c.in_ok-make_steps.ensures in
+    let count : length head.steps.now ≡ length made.0 =
+    sym (count_read head.steps.now made.0 made.1) in
     record {
       lines = [];
       rest = [];
@@ -26,7 +29,10 @@ returns-clause-ok c blank =
       };
       opening = c.in_ok-device.ensures.opening;
       asked = tt;
-      session = rw (append-nil (map step_request made.0)) (made.2 head.caps head.capacity
+      session = taken head.caps head.capacity (map step_request made.0) (length made.0) _ _ _ _ [] _ _
+          (c.in_ok-add_ready.ensures
+          ∙ ap (λ n. string_bytes c.make_steps.new.text ++ line_of_text (ready_text n)) count)
+          (made.2 head.caps head.capacity
           (rw blank (new_session head.caps head.capacity _ _ c.in_ok-device.ensures.first)));
     }
 

@@ -2,19 +2,21 @@ use Rattle.dsa_serve.proofs.rows.courses.Goals as goal
 use Rattle.std.proofs.Common.{◌≡◌, ◌≢◌, ◌∙◌, ◌++◌, ℕ, List, [], ◌∷◌, All, codes, refl, ap}
 use Rattle.std.proofs.Common.{arith, lit≤, flat_map, length, length-take, append_assoc, append-nil, subst, sym}
 use Rattle.std.proofs.lemmas.{Bool.{false≢true}, List.Elements.{All-nil, All-cons}}
+use Rattle.std.specs.Fmt.{digits}
 use Rattle.serde_json.proofs.OnLiterals.{serde_json_on_literals}
 use Rattle.dsa_regs.specs.Caps.{check_caps}
 use Rattle.dsa_book.specs.declared.answer.Ticket.{Ticket}
 use Rattle.dsa_device.specs.Running.{Running, running_at_first, IsReplay}
-use Rattle.dsa_scenario.specs.{Lines.{line_of_text}, Steps.{visits}, Worked.{smallest_caps, no_caps_text, document_text}}
-use Rattle.dsa_serve.proofs.Sessions.{new_session}
-use Rattle.dsa_serve.specs.declared.requests.LineFault.TheVariants.{NotJson}
-use Rattle.dsa_serve.specs.Requests.{Request, Fault}
+use Rattle.dsa_scenario.specs.{Lines.{line_of_text}, Steps.{visits}}
+use Rattle.dsa_scenario.specs.Worked.{smallest_caps, no_caps_text, document_text}
+use Rattle.dsa_serve.proofs.Sessions.{new_session, taken}
+use Rattle.dsa_serve.specs.Requests.{Request, Ready}
 use Rattle.dsa_serve.specs.{Answers.{answers}, Input.{IsLine}}
-use Rattle.dsa_serve.specs.{Dialogue.{from_document, IsServing}, Worked.{first_line}}
+use Rattle.dsa_serve.specs.{Dialogue.{from_document, IsServing}, Worked.{first_line, not_json}}
 use Rattle.dsa_serve.proofs.RowLines.{no_lines, no_feed_behind, one_division}
 use Rattle.dsa_serve.proofs.RowDialogues.{bare_document, parts_are, no_document, bare_parts, opening_is, nothing_behind}
-use Rattle.dsa_serve.proofs.RowDialogues.{bare_line, no_request, one_fault}
+use Rattle.dsa_serve.specs.declared.ending.Inside.TheVariants.{Brackets}
+use Rattle.dsa_serve.proofs.{Ends.{line_no_end}, RowDialogues.{no_request, one_fault}}
 
 -- what is so of a session: its answers
 answers_are : (first behind output : List ℕ) (number : ℕ) (now : Running) (tickets : List Ticket) (told : ℕ)
@@ -30,13 +32,15 @@ answers_are first behind output number now tickets told kept is requests e =
 
 nothing_answered : (output : List ℕ) (number : ℕ) (now : Running) (tickets : List Ticket) (told : ℕ)
     (kept : List ℕ)
-    → IsServing (first_line []) [] output number now tickets told kept → output ≡ []
+    → IsServing (first_line []) [] output number now tickets told kept → output ≡ codes "ready 0\n"
+unfolding digits
 nothing_answered output number now tickets told kept is =
     let none = no_request is.requests (rw (no_lines is.lines is.rest is.lines_are.joined).0 at is.asked) in
-    answers_are (first_line []) [] output number now tickets told kept is []
-    (rw (bare_parts is.caps is.capacity is.observed is.document).1 none)
+    answers_are (first_line []) [] output number now tickets told kept is (Ready 0 ∷ [])
+    (rw (bare_parts is.caps is.capacity is.observed is.document).1 (ap (λ rs. Ready 0 ∷ rs) none))
 
-opened_here : IsServing (first_line []) [] [] 0 (running_at_first smallest_caps 9) [] 0 []
+opened_here : IsServing (first_line []) [] (codes "ready 0\n") 0 (running_at_first smallest_caps 9) [] 0 []
+unfolding digits
 opened_here =
     let replay : IsReplay (running_at_first smallest_caps 9) =
     record { caps = refl; bounded = lit≤ tt; within = lit≤ tt; legal = refl; replayed = refl } in
@@ -52,8 +56,9 @@ opened_here =
       document = bare_document;
       opening = opening_is;
       asked = tt;
-      session = new_session smallest_caps 9 (running_at_first smallest_caps 9) []
-          (record { device = refl; replay = replay; none = refl });
+      session = taken smallest_caps 9 [] 0 0 (running_at_first smallest_caps 9) [] 0 [] [] (codes "ready 0\n") refl
+          (new_session smallest_caps 9 (running_at_first smallest_caps 9) []
+          (record { device = refl; replay = replay; none = refl }));
     }
 
 pub returns-clause-opened : goal.returns-clause-opened
@@ -67,7 +72,8 @@ no_session behind output number now tickets told kept is =
     no_document (codes "{}") is.caps is.capacity is.observed _ refl refl is.document
 
 pub returns-clause-no_document : goal.returns-clause-no_document
-returns-clause-no_document c output number now tickets told kept is = no_session [] output number now tickets told kept is
+returns-clause-no_document c output number now tickets told kept is = no_session [] output number now tickets told kept
+    is
 
 pub returns-clause-bad_caps : goal.returns-clause-bad_caps
 unfolding serde_json_on_literals
@@ -75,6 +81,11 @@ returns-clause-bad_caps c output number now tickets told kept is =
     let parts = parts_are (document_text no_caps_text (codes "9") []) is.caps is.capacity is.observed _ _ refl refl
     is.document in
     false≢true (ap check_caps parts.0 ∙ is.opening.good)
+
+pub returns-clause-not_told_to_be_taken : goal.returns-clause-not_told_to_be_taken
+returns-clause-not_told_to_be_taken c number now tickets told kept is =
+    let none = nothing_answered [] number now tickets told kept is in
+    absurd cc
 
 pub returns-clause-answered_too_early : goal.returns-clause-answered_too_early
 returns-clause-answered_too_early c output number now tickets told kept is =
@@ -88,13 +99,14 @@ one_line lines rest e each last =
     sym (one_division ([] ∷ []) lines [] rest (All-cons IsLine [] [] none (All-nil IsLine)) each none last e).0
 
 pub returns-clause-line_without_its_answer : goal.returns-clause-line_without_its_answer
-unfolding serde_json_on_literals
+unfolding serde_json_on_literals digits
 returns-clause-line_without_its_answer c number now tickets told kept is =
     let line = one_line is.lines is.rest is.lines_are.joined is.lines_are.each is.lines_are.last in
     let one = one_fault [] is.requests (lit≤ tt) refl (rw line at is.asked) in
-    let answer = answers_are (first_line []) (codes "\n") [] number now tickets told kept is (Fault NotJson ∷ [])
-    (rw (bare_parts is.caps is.capacity is.observed is.document).1 one) in
-    absurd cc
+    let answer = answers_are (first_line []) (codes "\n") (codes "ready 0\n") number now tickets told kept is
+    (Ready 0 ∷ not_json ∷ [])
+    (rw (bare_parts is.caps is.capacity is.observed is.document).1 (ap (λ rs. Ready 0 ∷ rs) one)) in
+    absurd (omega (arith, ap length answer))
 
 -- bytes without a line feed are the rest of a line
 only_rest : (behind : List ℕ) (lines : List (List ℕ)) (rest : List ℕ) → IsLine behind
@@ -116,12 +128,12 @@ returns-clause-begun c dialogue number device tickets told kept = record {
   input = line_of_text (first_line []);
   first = first_line [];
   behind = [];
-  output = [];
+  output = codes "ready 0\n";
   read = refl;
   written = refl;
-  line = bare_line;
+  unended = refl;
   short = lit≤ tt;
-  front = refl;
+  front = (refl, refl);
   serving = rw number (rw device (rw tickets (rw told (rw kept opened_here))));
 }
 
@@ -134,14 +146,14 @@ returns-clause-begun_with_no_document c dialogue held holds is =
     dialogue.kept.items) first is.serving)
 
 pub returns-clause-longest_first : goal.returns-clause-longest_first
-returns-clause-longest_first c first dialogue line long serving = record {
+returns-clause-longest_first c first output dialogue line long serving = record {
   input = first;
   first = first;
   behind = [];
-  output = [];
+  output = output;
   read = sym (append-nil first);
   written = refl;
-  line = line;
+  unended = line_no_end (Brackets 0) first line;
   short = omega (arith, long);
   front = (refl, refl);
   serving = serving;
@@ -154,7 +166,7 @@ returns-clause-written_too_early c dialogue is =
     let served = subst (λ f. IsServing f is.behind is.output session.number session.device session.tickets.items
     session.told dialogue.kept.items) first is.serving in
     let none = nothing_answered is.output session.number session.device session.tickets.items session.told
-    dialogue.kept.items (subst (λ b. IsServing (first_line []) b is.output session.number session.device session.tickets.items session.told
+    dialogue.kept.items (subst (λ b. IsServing
+    (first_line []) b is.output session.number session.device session.tickets.items session.told
     dialogue.kept.items) is.front.1 served) in
-    let written = is.written ∙ none in
-    absurd cc
+    absurd (omega (arith, ap length (is.written ∙ none)))

@@ -2,7 +2,8 @@ use Rattle.dsa_serve.proofs.rows.dialogues.Goals as goal
 use Rattle.dsa_book.specs.declared.answer.Reply.TheVariants as reply
 use Rattle.dsa_book.specs.declared.event.Event.TheVariants as event
 use Rattle.dsa_scenario.specs.Steps.{visits}
-use Rattle.std.proofs.Common.{◌++◌, ℕ, ◌≢◌, true, false, List, [], ◌∷◌, codes, map, refl, lit≤, lit<, arith, sym, append-nil, inl, inr}
+use Rattle.std.proofs.Common.{◌++◌, ℕ, ◌≢◌, true, false, List, [], ◌∷◌, codes, map, refl, lit≤, lit<, arith, sym}
+use Rattle.std.proofs.Common.{append-nil, inl, inr}
 use Rattle.std.specs.Fmt.{digits}
 use Rattle.std.proofs.lemmas.List.Elements.{All-nil, All-cons}
 use Rattle.dsa_book.specs.declared.answer.PollAnswer.TheVariants.{Nothing}
@@ -10,13 +11,11 @@ use Rattle.dsa_scenario.specs.declared.{actions.Action.TheVariants.{Ask}, run.Re
 use Rattle.dsa_book.specs.State.{opening}
 use Rattle.dsa_scenario.specs.{Lines.{line_of_text}, Worked.{smallest_caps, stepped}}
 use Rattle.dsa_scenario.specs.Worked.{caps_of_a_run, actions_of_a_run, records_of_a_run}
-use Rattle.dsa_serve.specs.declared.requests.LineFault.TheVariants.{NotJson}
 use Rattle.dsa_device.specs.Running.{running_at_first}
-use Rattle.dsa_serve.specs.Requests.{Explain, Fault}
+use Rattle.dsa_serve.specs.Requests.{Explain}
 use Rattle.dsa_serve.specs.{Input.{IsLine, AreLines, HasFirst}, Dialogue.{IsDialogue, AnswersWhole, AnswersAll}}
-use Rattle.dsa_serve.specs.Worked.{poll_line, explained_poll_line, first_line, unseen}
-use Rattle.dsa_serve.proofs.RowLines.{line_by_test}
-use Rattle.dsa_serve.proofs.RowDialogues.{bare_document, poll_document, bare_line, open_brace, nothing_behind}
+use Rattle.dsa_serve.specs.Worked.{poll_line, explained_poll_line, first_line, not_json, unseen}
+use Rattle.dsa_serve.proofs.RowDialogues.{bare_document, poll_document, open_brace, nothing_behind}
 use Rattle.dsa_serve.proofs.RowDialogues.{asks_no_json, asks_explained_poll, dialogue_by, bare_dialogue, all_unseen}
 
 pub returns-clause-no_lines : goal.returns-clause-no_lines
@@ -29,14 +28,14 @@ pub returns-clause-lines : goal.returns-clause-lines
 unfolding digits
 returns-clause-lines c =
     dialogue_by (first_line poll_line) (codes "{" ∷ explained_poll_line ∷ []) ((Ask event.Poll, unseen) ∷ [])
-    (Fault NotJson ∷ Explain (Ask event.Poll) unseen ∷ []) (polled ∷ polled ∷ []) poll_document
+    (not_json ∷ Explain (Ask event.Poll) unseen ∷ []) (polled ∷ polled ∷ []) poll_document
     (asks_no_json, (asks_explained_poll, tt)) (refl, (refl, tt)) refl refl
     (all_unseen (running_at_first smallest_caps 9) (Ask event.Poll ∷ Ask event.Poll ∷ [])
     (visits smallest_caps 9 [] (polled ∷ polled ∷ [])))
 
 -- the first line of such an input, and the lines behind it
 split : (behind : List ℕ) → HasFirst false (line_of_text (first_line []) ++ behind) (first_line []) behind
-split behind = record { line = bare_line; short = lit≤ tt; front = refl }
+split behind = record { unended = refl; short = lit≤ tt; front = (refl, refl) }
 
 one_line : AreLines (codes "{\n{") (codes "{" ∷ []) (codes "{")
 one_line = record {
@@ -48,12 +47,14 @@ one_line = record {
 no_line : AreLines (codes "{") [] (codes "{")
 no_line = record { joined = refl; each = All-nil IsLine; last = open_brace }
 
-dialogue : IsDialogue (first_line []) (codes "{" ∷ []) (opening smallest_caps) (codes "fault not JSON\n")
-dialogue = dialogue_by (first_line []) (codes "{" ∷ []) [] (Fault NotJson ∷ []) [] bare_document (asks_no_json, tt) tt refl refl tt
+dialogue : IsDialogue (first_line []) (codes "{" ∷ []) (opening smallest_caps) (codes "ready 0\nfault not JSON\n")
+unfolding digits
+dialogue = dialogue_by (first_line []) (codes "{" ∷ []) [] (not_json ∷ []) [] bare_document
+    (asks_no_json, tt) tt refl refl tt
 
 -- what answers the whole lines of such an input, and what answers all of them
 whole_of : (behind rest : List ℕ) → AreLines behind (codes "{" ∷ []) rest
-    → AnswersWhole false (line_of_text (first_line []) ++ behind) (codes "fault not JSON\n")
+    → AnswersWhole false (line_of_text (first_line []) ++ behind) (codes "ready 0\nfault not JSON\n")
 whole_of behind rest lines_are = record {
   first = first_line [];
   behind = behind;
@@ -65,7 +66,7 @@ whole_of behind rest lines_are = record {
   dialogue = dialogue;
 }
 
-all_of : AnswersAll (line_of_text (first_line []) ++ codes "{") (codes "fault not JSON\n")
+all_of : AnswersAll (line_of_text (first_line []) ++ codes "{") (codes "ready 0\nfault not JSON\n")
 all_of = record {
   without_feed = false;
   first = first_line [];
@@ -75,7 +76,7 @@ all_of = record {
     lines = [];
     rest = codes "{";
     last = opening smallest_caps;
-    answered = codes "fault not JSON\n";
+    answered = codes "ready 0\nfault not JSON\n";
     lines_are = no_line;
     dialogue = dialogue;
     with_fates = refl;
@@ -96,7 +97,7 @@ returns-clause-all c = all_of
 pub returns-clause-write : goal.returns-clause-write
 returns-clause-write c = (
   line_of_text (first_line []) ++ codes "{\n{",
-  codes "fault not JSON\n",
+  codes "ready 0\nfault not JSON\n",
   5,
   refl,
   inl (whole_of (codes "{\n{") (codes "{") one_line),
@@ -107,7 +108,7 @@ returns-clause-write c = (
 pub returns-clause-write_at_the_end : goal.returns-clause-write_at_the_end
 returns-clause-write_at_the_end c = (
   line_of_text (first_line []) ++ codes "{",
-  codes "fault not JSON\n",
+  codes "ready 0\nfault not JSON\n",
   5,
   refl,
   inr (inr (refl, all_of)),
@@ -126,34 +127,35 @@ pub returns-clause-memory : goal.returns-clause-memory
 returns-clause-memory c rest long = (
   line_of_text (first_line []) ++ codes "{\n",
   10 ∷ rest,
-  codes "fault not JSON\n",
+  codes "ready 0\nfault not JSON\n",
   sym (append-nil ((line_of_text (first_line []) ++ codes "{\n") ++ 10 ∷ rest)),
   omega (arith, long),
   inl (inr (whole_of (codes "{\n") [] line_alone)),
   refl,
 )
 
-poll_dialogue : IsDialogue (first_line poll_line) [] (opening smallest_caps) (codes "nothing\n")
+poll_dialogue : IsDialogue (first_line poll_line) [] (opening smallest_caps) (codes "nothing\nready 1\n")
+unfolding digits
 poll_dialogue =
     dialogue_by (first_line poll_line) [] ((Ask event.Poll, unseen) ∷ []) [] (polled ∷ []) poll_document tt (refl, tt)
     refl refl (all_unseen (running_at_first smallest_caps 9) (Ask event.Poll ∷ [])
     (visits smallest_caps 9 [] (polled ∷ [])))
 
-only_line : AnswersWhole true (first_line poll_line) (codes "nothing\n")
+only_line : AnswersWhole true (first_line poll_line) (codes "nothing\nready 1\n")
 only_line = record {
   first = first_line poll_line;
   behind = [];
   lines = [];
   rest = [];
   last = opening smallest_caps;
-  split = record { line = line_by_test (first_line poll_line) refl; short = lit≤ tt; front = (refl, refl) };
+  split = record { unended = refl; short = lit≤ tt; front = (refl, refl) };
   lines_are = nothing_behind;
   dialogue = poll_dialogue;
 }
 
 pub returns-clause-memory_at_the_only_line : goal.returns-clause-memory_at_the_only_line
 returns-clause-memory_at_the_only_line c =
-    (first_line poll_line, [], codes "nothing\n", refl, lit≤ tt, inr (refl, only_line), refl)
+    (first_line poll_line, [], codes "nothing\nready 1\n", refl, lit≤ tt, inr (refl, only_line), refl)
 
 -- ---- fates
 
@@ -163,7 +165,8 @@ returns-clause-ended c first document = record {
   lines = [];
   rest = [];
   last = _;
-  answered = codes "written\nwritten\nended 0\nended 0\nrefused 13 BadCommand\naccepted 0\ntaken 0 from 0\ndone 01\nfull\n";
+  answered = codes
+      "written\nwritten\nended 0\nended 0\nrefused 13 BadCommand\naccepted 0\ntaken 0 from 0\ndone 01\nfull\nready 9\n";
   lines_are = nothing_behind;
   dialogue = record {
     caps = caps_of_a_run;

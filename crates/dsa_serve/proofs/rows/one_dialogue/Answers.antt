@@ -1,8 +1,10 @@
 use Rattle.dsa_serve.proofs.rows.one_dialogue.Goals as goal
 use Rattle.dsa_book.specs.declared.answer.Reply.TheVariants as reply
-use Rattle.std.proofs.Common.{◌≡◌, ◌≢◌, ◌∙◌, ◌++◌, ◌&&◌, ℕ, true, false, List, [], ◌∷◌, All, Option, Some, None, map, codes, refl, ap}
-use Rattle.std.proofs.Common.{arith, flat_map, length, length-append, length-take, append_assoc, subst, sym, inl, inr, lit≤}
-use Rattle.std.specs.Option.{is_some}
+use Rattle.std.proofs.Common.{◌≡◌, ◌≢◌, ◌∙◌, ◌++◌, ◌&&◌, ℕ, true, false, List, [], ◌∷◌, All, Option, Some, None, map}
+use Rattle.std.proofs.Common.{codes, refl, ap}
+use Rattle.std.proofs.Common.{arith, flat_map, length, length-append, length-take, append_assoc, subst, sym, inl, inr}
+use Rattle.std.proofs.Common.{lit≤}
+use Rattle.std.specs.{Option.{is_some}, Fmt.{digits}}
 use Rattle.std.proofs.lemmas.{Bool.{and_parts, false≢true}, List.{append_cancel_right, Elements.{All-nil, All-cons}}}
 use Rattle.serde_json.proofs.OnLiterals.{serde_json_on_literals}
 use Rattle.dsa_regs.specs.{declared.Caps.{Caps}, Caps.{check_caps}}
@@ -11,18 +13,19 @@ use Rattle.dsa_book.specs.declared.event.Event.TheVariants.{Poll}
 use Rattle.dsa_book.specs.{Machine.{next, is_run}, State.{State, opening}}
 use Rattle.dsa_book.proofs.Nexts.{next-is}
 use Rattle.dsa_device.specs.Running.{running_at_first}
-use Rattle.dsa_scenario.specs.declared.{actions.Action.{Action, TheVariants.{Ask}}, run.Record.{Record, TheVariants.{Stepped, Refused}}}
+use Rattle.dsa_scenario.specs.declared.actions.Action.{Action, TheVariants.{Ask}}
+use Rattle.dsa_scenario.specs.declared.run.Record.{Record, TheVariants.{Stepped, Refused}}
 use Rattle.dsa_scenario.specs.Lines.{record_text, reply_text, line_of_text}
 use Rattle.dsa_scenario.specs.{Run.{AreOf, steps_of_records}, Steps.{standing, visits}}
 use Rattle.dsa_scenario.specs.Worked.{smallest_caps, smallest_caps_text, no_caps_text, document_text}
-use Rattle.dsa_serve.specs.declared.requests.LineFault.TheVariants.{NotJson}
 use Rattle.dsa_conform.specs.Seen.{Seen}
-use Rattle.dsa_serve.specs.Requests.{Request, Step, Fault, actions_of}
+use Rattle.dsa_serve.specs.Requests.{Request, Step, Ready, actions_of}
 use Rattle.dsa_serve.specs.Answers.{answers}
 use Rattle.dsa_serve.specs.Input.{IsLine, with_rest}
-use Rattle.dsa_serve.specs.{Dialogue.{from_document, IsDialogue, AnswersWhole}, Worked.{first_line, poll_line, unseen}}
-use Rattle.dsa_serve.proofs.RowLines.{no_lines, one_way, one_division}
-use Rattle.dsa_serve.proofs.RowDialogues.{parts_are, no_document, bare_parts, bare_line, open_brace, no_request, one_fault}
+use Rattle.dsa_serve.specs.Dialogue.{from_document, IsDialogue, AnswersWhole}
+use Rattle.dsa_serve.specs.Worked.{first_line, not_json, poll_line, unseen}
+use Rattle.dsa_serve.proofs.{Ends.{one_document}, RowLines.{no_lines, one_division}}
+use Rattle.dsa_serve.proofs.RowDialogues.{parts_are, no_document, bare_parts, open_brace, no_request, one_fault}
 
 pub returns-clause-no_document : goal.returns-clause-no_document
 unfolding serde_json_on_literals
@@ -39,7 +42,8 @@ returns-clause-bad_caps c last output is =
 pub returns-clause-large : goal.returns-clause-large
 unfolding serde_json_on_literals
 returns-clause-large c last output is =
-    let parts = parts_are (document_text smallest_caps_text (codes "1048577") []) is.caps is.capacity is.observed _ _ refl
+    let parts = parts_are (document_text smallest_caps_text (codes "1048577") []) is.caps is.capacity is.observed _ _
+    refl
     refl is.document in
     let capacity : 1_048_577 ≡ is.capacity = parts.1 in
     omega (arith, capacity, is.opening.small)
@@ -50,9 +54,10 @@ no_records (r ∷ records) h = absurd h
 
 -- a first line without steps, and no lines
 bare_requests : (last : State) (output : List ℕ) → (is : IsDialogue (first_line []) [] last output)
-    → from_document is.observed is.requests ≡ []
+    → from_document is.observed is.requests ≡ Ready 0 ∷ []
 bare_requests last output is =
-    rw (bare_parts is.caps is.capacity is.observed is.document).1 (no_request is.requests is.asked)
+    rw (bare_parts is.caps is.capacity is.observed is.document).1
+    (ap (λ rs. Ready 0 ∷ rs) (no_request is.requests is.asked))
 
 state_is : (last : State) (output : List ℕ) → IsDialogue (first_line []) [] last output → last ≡ opening smallest_caps
 state_is last output is =
@@ -61,7 +66,9 @@ state_is last output is =
     let caps = (bare_parts is.caps is.capacity is.observed is.document).0 in
     cc
 
-output_is : (last : State) (output : List ℕ) → IsDialogue (first_line []) [] last output → output ≡ []
+output_is : (last : State) (output : List ℕ) → IsDialogue (first_line []) [] last output
+    → output ≡ codes "ready 0\n"
+unfolding digits
 output_is last output is =
     is.answered
     ∙ ap (λ rs. answers (running_at_first is.caps is.capacity) 0 rs (visits is.caps is.capacity [] is.records))
@@ -79,12 +86,12 @@ returns-clause-one_end c output h =
 
 -- and one that is no JSON
 answer_is : (last : State) (output : List ℕ) → IsDialogue (first_line []) (codes "{" ∷ []) last output
-    → output ≡ codes "fault not JSON\n"
-unfolding serde_json_on_literals
+    → output ≡ codes "ready 0\nfault not JSON\n"
+unfolding serde_json_on_literals digits
 answer_is last output is =
-    let requests : from_document is.observed is.requests ≡ Fault NotJson ∷ [] =
+    let requests : from_document is.observed is.requests ≡ Ready 0 ∷ not_json ∷ [] =
     rw (bare_parts is.caps is.capacity is.observed is.document).1
-    (one_fault (codes "{") is.requests (lit≤ tt) refl is.asked) in
+    (ap (λ rs. Ready 0 ∷ rs) (one_fault (codes "{") is.requests (lit≤ tt) refl is.asked)) in
     is.answered
     ∙ ap (λ rs. answers (running_at_first is.caps is.capacity) 0 rs (visits is.caps is.capacity [] is.records)) requests
 
@@ -106,7 +113,7 @@ no_answer observed requests (r ∷ records) caps capacity is of_actions answered
       ap length lines,
       length-append (record_text r) (10 ∷ []),
       length-append (record_text r ++ 10 ∷ [])
-          (answers (standing caps capacity (r ∷ [])) 0 requests (visits caps capacity (r ∷ []) records)),
+          (answers (standing caps capacity (r ∷ [])) 0 (Ready 1 ∷ requests) (visits caps capacity (r ∷ []) records)),
     ))
 
 one_action : (observed : List (Action × Seen)) → Some (Ask Poll, unseen) ∷ [] ≡ map Some observed
@@ -142,8 +149,10 @@ poll_reply r run =
 
 poll_text_is : (records : List Record) (caps : Caps) (capacity : ℕ) → AreOf [] (Ask Poll ∷ []) records
     → is_run smallest_caps 9 (steps_of_records records) ≡ true
-    → answers (running_at_first caps capacity) 0 (Step (Ask Poll) unseen ∷ []) (visits caps capacity [] records)
-    ≡ codes "nothing\n"
+    → answers (running_at_first caps capacity) 0 (Step (Ask Poll) unseen ∷ Ready 1 ∷ [])
+    (visits caps capacity [] records)
+    ≡ codes "nothing\nready 1\n"
+unfolding digits
 poll_text_is [] caps capacity of run = absurd of
 poll_text_is (Refused fault ∷ []) caps capacity of run =
     let refused = of.0 in
@@ -152,14 +161,14 @@ poll_text_is (Stepped step ∷ []) caps capacity of run =
     let asked = of.0 in
     let event : step.event ≡ Poll = cc in
     let polled = subst (λ e. is_some (next (opening smallest_caps) e step.reply) && true ≡ true) event run in
-    ap (λ r. line_of_text (reply_text r) ++ []) (poll_reply step.reply polled)
+    ap (λ r. line_of_text (reply_text r) ++ codes "ready 1\n") (poll_reply step.reply polled)
 poll_text_is (entry ∷ other ∷ records) caps capacity of run = absurd of.1
 
 pub returns-clause-one_run : goal.returns-clause-one_run
 returns-clause-one_run c last output is =
     let head = poll_head last output is in
-    let asks : from_document is.observed is.requests ≡ Step (Ask Poll) unseen ∷ [] =
-    rw head.2 (ap (λ rs. Step (Ask Poll) unseen ∷ rs) (no_request is.requests is.asked)) in
+    let asks : from_document is.observed is.requests ≡ Step (Ask Poll) unseen ∷ Ready 1 ∷ [] =
+    rw head.2 (ap (λ rs. Step (Ask Poll) unseen ∷ Ready 1 ∷ rs) (no_request is.requests is.asked)) in
     let of : AreOf [] (Ask Poll ∷ []) is.records = rw asks at is.of_actions in
     let steps = steps_of_records is.records in
     let run : is_run smallest_caps 9 steps ≡ true =
@@ -175,9 +184,8 @@ whole_is : (behind : List ℕ) (lines : List (List ℕ)) (rest input output : Li
     → flat_map line_of_text lines ++ rest ≡ behind → line_of_text (first_line []) ++ behind ≡ input
     → AnswersWhole false input output → (last : State) × IsDialogue (first_line []) lines last output
 whole_is behind lines rest input output each line is e h =
-    let way = one_way (first_line []) h.first behind h.behind bare_line h.split.line
-    (sym (append_assoc (first_line []) (10 ∷ []) behind) ∙ e ∙ h.split.front
-    ∙ append_assoc h.first (10 ∷ []) h.behind) in
+    let way = one_document input (first_line []) h.first behind h.behind refl h.split.unended
+    (sym e, refl) h.split.front in
     let these = one_division lines h.lines rest h.rest each h.lines_are.each line h.lines_are.last
     (is ∙ way.1 ∙ h.lines_are.joined) in
     let first = subst (λ f. IsDialogue f h.lines h.last output) (sym way.0) h.dialogue in
@@ -202,7 +210,7 @@ returns-clause-rest_before_the_end c text is =
     elim is.4 [
       | inl whole ↦
           let it = whole_is (codes "{") [] (codes "{") is.0 is.1 (All-nil IsLine) open_brace refl input whole in
-          absurd (omega (arith, is.5, ap length (output_is it.0 is.1 it.1)))
+          omega (arith, is.5, ap length (output_is it.0 is.1 it.1), ap length is.6, length-take is.2 is.1)
       | inr (inl only) ↦ (let left = only.0 in absurd cc)
       | inr (inr all) ↦ (let left = all.0 in absurd cc)
     ]

@@ -3,15 +3,16 @@ use Rattle.std.proofs.Common.{◌≡◌, ◌≢◌, ◌≤◌, ◌^◌, ◌∙�
 use Rattle.std.proofs.Common.{◌∷◌, Option, None, codes, refl, sym, ap, arith, subst}
 use Rattle.std.proofs.Common.{length, length-append, append-nil, append_assoc, inl, inr}
 use Rattle.std.specs.{Prelude.{Some, IsUtf8}, Io.KnownBytes.{IsAtEnd}}
-use Rattle.std.proofs.{Math.ListN.{get_or-append}, lemmas.List.Elements.{All-nil, All-cons, All-head}}
+use Rattle.std.proofs.{Math.ListN.{get_or-append}, lemmas.List.Elements.{All-nil, All-cons}}
 use Rattle.dsa_scenario.specs.declared.faults.ScenarioFault.TheVariants.{Write}
 use Rattle.dsa_scenario.specs.Document.{IsNoJson, HasNoHead}
 use Rattle.dsa_conform.specs.Run.{IsUnread}
 use Rattle.dsa_book.specs.State.{State}
 use Rattle.serde_json.{specs.Read.{read}, proofs.OnLiterals.{serde_json_on_literals}}
-use Rattle.dsa_serve.specs.Input.{IsLine, IsFront, HasFirst, with_rest}
+use Rattle.dsa_serve.specs.declared.ending.Inside.TheVariants.{Brackets}
+use Rattle.dsa_serve.specs.Input.{IsLine, IsFront, HasFirst, IsUnended, with_rest}
 use Rattle.dsa_serve.specs.Dialogue.{IsDialogue, AnswersWhole, AnswersAll, AnswersSoFar, IsStopped}
-use Rattle.dsa_serve.proofs.{RowLines.{no_feed_behind}, RowDialogues.{headless, no_dialogue}}
+use Rattle.dsa_serve.proofs.{Ends.{line_no_end}, RowLines.{no_feed_behind}, RowDialogues.{headless, no_dialogue}}
 
 one : IsLine (codes "1")
 one = All-cons (λ byte. byte ≢ 10) 49 [] (λ same. absurd (omega (arith, same))) (All-nil (λ byte. byte ≢ 10))
@@ -20,10 +21,10 @@ one = All-cons (λ byte. byte ≢ 10) 49 [] (λ same. absurd (omega (arith, same
 only_first : (ended : Bool) (input first behind : List ℕ) → IsLine input → IsFront ended input first behind
     → input ≡ first
 only_first true input first behind line front = front.0
-only_first false input first behind line front = absurd (no_feed_behind input first behind line front)
+only_first false input first behind line front = absurd (no_feed_behind input first behind line front.0)
 
 pub returns-clause-read : goal.returns-clause-read
-returns-clause-read c = (codes "1", [], refl, inl (one, omega arith, refl), refl)
+returns-clause-read c = (codes "1", [], refl, inl (refl, omega arith, refl), refl)
 
 -- a line that no dialogue begins with: nothing is an answer to it
 module _ (bytes : List ℕ) (line : IsLine bytes)
@@ -72,8 +73,15 @@ returns-clause-answered_too_early c is =
     absurd cc
 
 pub returns-clause-too_long : goal.returns-clause-too_long
-returns-clause-too_long c first line long =
-    (first, [], sym (append-nil (first ++ []) ∙ append-nil first), line, omega (arith, long), omega (arith, long), refl)
+returns-clause-too_long c first line long = (
+  first,
+  [],
+  sym (append-nil (first ++ []) ∙ append-nil first),
+  line_no_end (Brackets 0) first line,
+  omega (arith, long),
+  omega (arith, long),
+  refl,
+)
 
 pub returns-clause-longest : goal.returns-clause-longest
 returns-clause-longest c first long is = absurd (omega (
@@ -93,12 +101,12 @@ returns-clause-nothing_read c is =
     nothing_written [] (All-nil (λ byte. byte ≢ 10)) no_bytes (Some []) (Some []) is
 
 pub returns-clause-memory : goal.returns-clause-memory
-returns-clause-memory c = (codes "1", [], [], refl, omega arith, inl (inl (one, omega arith, refl)), refl)
+returns-clause-memory c = (codes "1", [], [], refl, omega arith, inl (inl (refl, omega arith, refl)), refl)
 
 -- a number is a first line, and no document
 number_first : (ended : Bool) (input behind : List ℕ) → IsFront ended input (codes "1") behind
     → HasFirst ended input (codes "1") behind
-number_first ended input behind front = record { line = one; short = omega arith; front = front }
+number_first ended input behind front = record { unended = refl; short = omega arith; front = front }
 
 no_head : HasNoHead (codes "1")
 unfolding serde_json_on_literals
@@ -110,12 +118,33 @@ unfolding serde_json_on_literals
 none_unread i is = headless (codes "1") is.caps is.capacity is.steps _ refl refl is.head
 
 pub returns-clause-document : goal.returns-clause-document
-returns-clause-document c =
-    (codes "1", codes "1", [], true, refl, number_first true (codes "1") [] (refl, refl), λ ended. refl, omega arith, (no_head, none_unread), refl)
+returns-clause-document c = (
+  codes "1",
+  codes "1",
+  [],
+  true,
+  refl,
+  number_first true (codes "1") [] (refl, refl),
+  λ ended. refl,
+  omega arith,
+  (no_head, none_unread),
+  refl,
+)
 
 pub returns-clause-document_before_more : goal.returns-clause-document_before_more
-returns-clause-document_before_more c =
-    (codes "1\n", codes "1", [], false, refl, number_first false (codes "1\n") [] refl, λ ended. absurd cc, omega arith, (no_head, none_unread), refl)
+returns-clause-document_before_more c = (
+  codes "1\n",
+  codes "1",
+  [],
+  false,
+  refl,
+  number_first false (codes "1\n") []
+      (refl, refl),
+  λ ended. absurd cc,
+  omega arith,
+  (no_head, none_unread),
+  refl,
+)
 
 pub returns-clause-other_fault : goal.returns-clause-other_fault
 unfolding serde_json_on_literals
@@ -125,7 +154,7 @@ returns-clause-other_fault c is =
     absurd cc
 
 pub returns-clause-nothing_yet : goal.returns-clause-nothing_yet
-returns-clause-nothing_yet c = inl (one, omega arith, refl)
+returns-clause-nothing_yet c = inl (refl, omega arith, refl)
 
 -- an answer so far is to a line that is not too long
 no_longer : (input output : List ℕ) → IsLine input → AnswersSoFar input output → length input ≤ 2 ^ 20
@@ -158,34 +187,49 @@ returns-clause-memory_after_a_long_line c input line long is =
     ]
 
 pub returns-clause-too_long_with_more : goal.returns-clause-too_long_with_more
-returns-clause-too_long_with_more c first line long =
-    (first, codes "\n", sym (append-nil (first ++ codes "\n")), line, omega (arith, long), omega (arith, long), refl)
+returns-clause-too_long_with_more c first line long = (
+  first,
+  codes "\n",
+  sym (append-nil (first ++ codes "\n")),
+  line_no_end (Brackets 0) first line,
+  omega (arith, long),
+  omega (arith, long),
+  refl,
+)
 
 pub returns-clause-too_long_with_a_read : goal.returns-clause-too_long_with_a_read
-returns-clause-too_long_with_a_read c first more line long few =
-    (first, more, sym (append-nil (first ++ more)), line, omega (arith, long), omega (arith, long, few), refl)
+returns-clause-too_long_with_a_read c first more line long few = (
+  first,
+  more,
+  sym (append-nil (first ++ more)),
+  line_no_end (Brackets 0) first line,
+  omega (arith, long),
+  omega (arith, long, few),
+  refl,
+)
 
 pub returns-clause-too_long_and_read_on : goal.returns-clause-too_long_and_read_on
 returns-clause-too_long_and_read_on c input long is =
     absurd (omega (arith, long, is.5, ap length (is.2 ∙ append-nil (is.0 ++ is.1)), length-append is.0 is.1))
 
--- no line begins with a line feed
-no_line_there : (rest first more : List ℕ) → 10 ∷ rest ≡ first ++ more → IsLine first → first ≡ []
-no_line_there rest [] more e line = refl
-no_line_there rest (b ∷ first) more e line =
+-- no document begins with a line feed
+nothing_there : (rest first more : List ℕ) → 10 ∷ rest ≡ first ++ more → IsUnended first → first ≡ []
+nothing_there rest [] more e unended = refl
+nothing_there rest (b ∷ first) more e unended =
     let feed : b ≡ 10 = cc in
-    absurd (All-head (λ byte. byte ≢ 10) b first line feed)
+    let ended = rw feed at unended in
+    absurd cc
 
 pub returns-clause-too_long_behind_a_line_feed : goal.returns-clause-too_long_behind_a_line_feed
 returns-clause-too_long_behind_a_line_feed c rest is =
-    let none = no_line_there rest is.0 is.1 (is.2 ∙ append-nil (is.0 ++ is.1)) is.3 in
+    let none = nothing_there rest is.0 is.1 (is.2 ∙ append-nil (is.0 ++ is.1)) is.3 in
     absurd (omega (arith, is.4, ap length none))
 
 -- what has no line feed is not answered
 nothing_to_a_line : (input output : List ℕ) → IsLine input → AnswersSoFar input output → output ≡ []
 nothing_to_a_line input output line (inl h) = h.2
 nothing_to_a_line input output line (inr h) =
-    absurd (no_feed_behind input h.first h.behind line h.split.front)
+    absurd (no_feed_behind input h.first h.behind line h.split.front.0)
 
 -- what is no JSON begins no dialogue
 no_json : (bytes : List ℕ) → IsNoJson bytes → (lines : List (List ℕ)) (last : State) (output : List ℕ)
@@ -227,7 +271,7 @@ with_more true input first behind is h at_end =
 with_more false [] first behind is h at_end = absurd cc
 with_more false (b ∷ []) first behind is h at_end =
     let byte : 49 ≡ b = cc in
-    no_feed_behind (b ∷ []) first behind (subst (λ d. IsLine (d ∷ [])) byte one) h.front
+    no_feed_behind (b ∷ []) first behind (subst (λ d. IsLine (d ∷ [])) byte one) h.front.0
 with_more false (b ∷ (d ∷ input)) first behind is h at_end =
     absurd (omega (arith, ap length is, length-append input (codes "2")))
 
@@ -238,12 +282,12 @@ returns-clause-unfinished_line_is_judged c is = with_more is.3 is.0 is.1 is.2 is
 all_behind : (ended : Bool) (rest input first behind : List ℕ) → 10 ∷ rest ≡ input → HasFirst ended input first behind
     → length behind ≡ length rest
 all_behind false rest input first behind is h =
-    let whole : 10 ∷ rest ≡ first ++ 10 ∷ behind = is ∙ h.front ∙ append_assoc first (10 ∷ []) behind in
-    let none = no_line_there rest first (10 ∷ behind) whole h.line in
+    let whole : 10 ∷ rest ≡ first ++ 10 ∷ behind = is ∙ h.front.0 ∙ append_assoc first (10 ∷ []) behind in
+    let none = nothing_there rest first (10 ∷ behind) whole h.unended in
     omega (arith, ap length whole, length-append first (10 ∷ behind), ap length none)
 all_behind true rest input first behind is h =
     let whole : 10 ∷ rest ≡ first = is ∙ h.front.0 in
-    let none = no_line_there rest first [] (whole ∙ sym (append-nil first)) h.line in
+    let none = nothing_there rest first [] (whole ∙ sym (append-nil first)) h.unended in
     absurd (omega (arith, ap length whole, ap length none))
 
 pub returns-clause-fault_with_a_read_behind : goal.returns-clause-fault_with_a_read_behind
@@ -254,7 +298,7 @@ returns-clause-fault_with_a_read_behind c rest few = (
   rest,
   false,
   sym (append-nil (10 ∷ rest)),
-  record { line = All-nil (λ byte. byte ≢ 10); short = omega arith; front = refl },
+  record { unended = refl; short = omega arith; front = (refl, refl) },
   λ ended. absurd cc,
   omega (arith, few),
   (λ text. refl, λ i is. let value = is.head.json.value in absurd cc),

@@ -11,12 +11,14 @@ pub returns-clause-ok : goal.returns-clause-ok
 returns-clause-ok g c =
     on_ok_weaker c.write_text.result
     (λ whole ended had left held h. all_answered ended had left held _ _ c.as_bytes.result.now c.args.dialogue.now
-    (ends_blank _ _ _ c.args.dialogue.now c.new-text.ensures.bytes c.as_bytes.ensures.value c.in_ok-add_end.ensures) whole h)
+    (ends_blank _ _ _ c.args.dialogue.now c.new-text.ensures.bytes c.as_bytes.ensures.value c.in_ok-add_end.ensures)
+    whole h)
     c.write_text.ensures.whole
 
 pub returns-clause-stopped : goal.returns-clause-stopped
 returns-clause-stopped g c =
     of_both c.write_text.result _ _ _
     (λ e is cut ended had left held at_end h. rw is (end_stops ended had left held _ _ c.as_bytes.result.now cut.0
-    c.args.dialogue.now at_end (ends_blank _ _ _ c.args.dialogue.now c.new-text.ensures.bytes c.as_bytes.ensures.value c.in_ok-add_end.ensures) cut.1 cut.2 h))
+    c.args.dialogue.now at_end (ends_blank _ _ _ c.args.dialogue.now c.new-text.ensures.bytes c.as_bytes.ensures.value
+    c.in_ok-add_end.ensures) cut.1 cut.2 h))
     c.write_text.ensures.fault c.write_text.ensures.prefix

@@ -21,7 +21,8 @@ returns-in_err-write_text-clause-stopped g c =
     omega (arith, c.in_ok-front.ensures.fits, c.in_ok-front.front.first.ok.0) in
     let cut = c.in_err-write_text.ensures.prefix in
     rw (p.1, p.2, c.in_err-write_text.ensures.fault) (first_write_stops _ _ _ _ _ bytes.0 _ _ _ _ cut.0 _ _ _ _ _
-    bytes.1 bytes.2 short bytes.3 c.in_ok-front.ensures.end c.as_bytes.ensures.value (c.in_ok-dialogue.ensures.ok c.new-text.ensures.bytes) cut.1
+    bytes.1 bytes.2 short bytes.3 c.in_ok-front.ensures.end c.as_bytes.ensures.value
+    (c.in_ok-dialogue.ensures.ok c.new-text.ensures.bytes) cut.1
     cut.2)
 
 pub returns-in_err-front-clause-writer : goal.returns-in_err-front-clause-writer
@@ -39,7 +40,7 @@ returns-clause-ok g c =
       output = c.as_bytes.result.now;
       read = bytes.1;
       written = c.in_ok-write_text.ensures.whole;
-      line = bytes.2;
+      unended = bytes.2;
       short = omega (arith, c.in_ok-front.ensures.fits, c.in_ok-front.front.first.ok.0);
       front = bytes.3;
       serving = rw c.as_bytes.ensures.value (c.in_ok-dialogue.ensures.ok c.new-text.ensures.bytes);

@@ -23,11 +23,14 @@ returns-in_err-write_text-clause-stopped g c =
     rw (p.1, p.2, c.in_err-write_text.ensures.fault) (λ had held h.
     write_stops had _ _ held _ _ (take c.in_ok-count.count c.read_once.new.chunk) c.as_bytes.result.now cut.0
     c.args.dialogue.now c.feed.new.self c.in_ok-count.ensures.bytes.0 cut.1 cut.2
-    (from_blank _ _ _ _ c.args.dialogue.now c.feed.new.self c.clear.ensures.bytes c.as_bytes.ensures.value c.in_ok-feed.ensures) h)
+    (from_blank _ _ _ _ c.args.dialogue.now c.feed.new.self c.clear.ensures.bytes c.as_bytes.ensures.value
+    c.in_ok-feed.ensures) h)
 
 pub returns-clause-ok : goal.returns-clause-ok
 returns-clause-ok g c had held h =
-    course_on had _ _ held _ _ (take c.in_ok-count.count c.read_once.new.chunk) c.as_bytes.result.now c.args.dialogue.now
+    course_on had _ _ held _ _ (take c.in_ok-count.count c.read_once.new.chunk) c.as_bytes.result.now
+    c.args.dialogue.now
     c.feed.new.self
     c.in_ok-count.ensures.bytes.0 c.in_ok-write_text.ensures.whole
-    (from_blank _ _ _ _ c.args.dialogue.now c.feed.new.self c.clear.ensures.bytes c.as_bytes.ensures.value c.in_ok-feed.ensures) h
+    (from_blank _ _ _ _ c.args.dialogue.now c.feed.new.self c.clear.ensures.bytes c.as_bytes.ensures.value
+    c.in_ok-feed.ensures) h

@@ -16,7 +16,8 @@ returns g c caps capacity requests written h =
     let line = line_with c.deref-2.result.now number entry in
     rw c.in_ok-number.ensures.more
     (stepped part_of caps capacity requests (Explain c.args.action seen) (c.args.action, seen) number
-    c.args.self.now.device _ _ _ c.args.self.now.told written _ _ (difference (shows seen entry) ++ line) c.deref-2.result.now entry asked refl
+    c.args.self.now.device _ _ _ c.args.self.now.told written _ _
+    (difference (shows seen entry) ++ line) c.deref-2.result.now entry asked refl
     (λ before t. c.event_for-asked.ensures before (rw c.deref.ensures.value t))
     it.closest c.in_ok-note_ticket.ensures
     (c.deref-2.ensures ∙ c.in_ok-add_part.ensures

@@ -16,11 +16,13 @@ returns g c =
     (λ line caps capacity requests written h.
     rw c.in_ok-number.ensures.more
     (stepped (λ now asked. []) caps capacity requests (Step c.args.action seen) (c.args.action, seen) now.number _ _ _ _
-    now.told written _ _ (difference (shows seen entry) ++ line_of_text (record_text entry)) [] entry c.event_for-asked.result refl
+    now.told written _ _ (difference (shows seen entry) ++ line_of_text (record_text entry)) [] entry
+    c.event_for-asked.result refl
     (λ before t. c.event_for-asked.ensures before (rw c.deref.ensures.value t))
     it.closest c.in_ok-note_ticket.ensures refl
     (line ∙ ap (λ l. l ++ line_of_text (record_text entry)) (c.in_ok-add_difference.ensures
     ∙ ap (λ b. string_bytes c.args.text.now ++ difference b) it.shown)
     ∙ append_assoc (string_bytes c.args.text.now) (difference (shows seen entry)) (line_of_text (record_text entry)))
-    (λ before same. plain_line now.device now.told c.args.action seen (visit now.number before entry c.follow_closest.new.device)) h))
+    (λ before same. plain_line now.device now.told c.args.action seen
+    (visit now.number before entry c.follow_closest.new.device)) h))
     c.add_record.ensures

@@ -1,0 +1,7 @@
+pub mod Lanes
+pub mod Events
+pub mod Slices
+pub mod Counters
+pub mod Pages
+pub mod Traces
+pub mod Worked

@@ -1,0 +1,11 @@
+use Rattle.dsa_cli.proofs.options.explain_command.Goals as goal
+use Rattle.std.proofs.{Common.{◌∙◌, ap₂, refl}, lemmas.Result.{IfOk-weaker}}
+use Rattle.clap.specs.Simple.{with_rule}
+
+pub returns-clause-app : goal.returns-clause-app
+returns-clause-app c =
+    let none = c.plain_command-command.ensures.app in
+    let one = c.in_ok-command.ensures.app ∙ ap₂ with_rule none c.number_option-name.ensures.rule in
+    let two = c.in_ok-command-2.ensures.app ∙ ap₂ with_rule one c.number_option-client.ensures.rule in
+    let three = c.in_ok-command-3.ensures.app ∙ ap₂ with_rule two c.text_option-only.ensures.rule in
+    IfOk-weaker c.with_seen.result _ _ (λ command app. app ∙ ap₂ with_rule three refl) c.with_seen.ensures.app

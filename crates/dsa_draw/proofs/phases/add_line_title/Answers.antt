@@ -1,0 +1,10 @@
+use Rattle.dsa_draw.proofs.phases.add_line_title.Goals as goal
+use Rattle.std.proofs.Common.{◌∙◌, append_assoc}
+use Rattle.std.proofs.lemmas.Result.{on_ok_weaker}
+use Rattle.dsa_draw.specs.Bands.{phase_line_title}
+
+pub returns : goal.returns
+unfolding phase_line_title
+returns c =
+    on_ok_weaker c.write.result (λ added. added ∙ rw c.in_ok-add_holder.ensures (simp append_assoc))
+    c.write.ensures.bytes

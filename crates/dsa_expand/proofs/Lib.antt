@@ -1,0 +1,9 @@
+pub mod Lists
+pub mod Sets
+pub mod Spaced
+pub mod Jsons
+pub mod ReadBack
+pub mod Shallow
+pub mod Texts
+pub mod Walked
+pub mod Whole

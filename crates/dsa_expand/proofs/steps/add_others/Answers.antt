@@ -1,0 +1,9 @@
+use Rattle.dsa_expand.proofs.steps.add_others.Goals as goal
+use Rattle.std.proofs.Common.{◌∙◌, refl}
+use Rattle.serde_json.specs.View.{view}
+use Rattle.dsa_expand.proofs.Lists.{pairs_listed}
+
+pub loop-key-init : goal.loop-key-init
+loop-key-init c =
+    let all = c.into_iter-key-iterator.ensures.into_iter_gives ∙ c.iter-key-items.ensures.rest in
+    rw (pairs_listed (view c.args.step.now) _ _ c.in-Some.ensures all) refl

@@ -1,0 +1,9 @@
+pub mod Values
+pub mod Commands
+pub mod Descriptors
+pub mod Steps
+pub mod Members
+pub mod Layout
+pub mod Expansion
+pub mod Walk
+pub mod Worked
