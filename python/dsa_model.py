@@ -232,9 +232,9 @@ class Entry(NamedTuple):
 # 0, and `command` is None.
 Event = NamedTuple("Event", [
     ("kind", EventKind), ("name", int), ("cell", int), ("pasid", int), ("flags", int),
-    ("size", int), ("operand", int), ("client", int), ("queue", int), ("group", int),
-    ("engine", int), ("operation", int), ("portal", Portal), ("outcome", Outcome),
-    ("command", Optional[Command])])
+    ("size", int), ("operand", int), ("descriptor_pasid", int), ("client", int), ("queue", int),
+    ("group", int), ("engine", int), ("operation", int), ("portal", Portal),
+    ("outcome", Outcome), ("command", Optional[Command])])
 
 # The batch that an engine works on: its name; how many members it has, and how many of these were
 # fetched; whether a member was not successful; whether the rest was abandoned behind a fence.
@@ -286,6 +286,8 @@ _TYPES: Dict[str, Tuple[int, Any, str]] = {
     "I": (32, ctypes.c_uint32, "uint32_t"), "Q": (64, ctypes.c_uint64, "uint64_t"),
     "?": (1, ctypes.c_bool, "bool"), "P": (64, ctypes.c_void_p, "void *"),
     "D": (512, ctypes.c_uint8 * 64, "uint8_t [64]"), "void": (0, None, "void"),
+    "char*": (0, ctypes.c_char_p, "char *"),
+    "I*": (0, ctypes.POINTER(ctypes.c_uint32), "uint32_t *"),
 }
 
 # The structs of the header, each with its fields and their types.
@@ -296,7 +298,7 @@ _LAYOUTS: Dict[str, Tuple[Any, str]] = {
     "dsa_caps": (Caps, "HHHHHHBB"), "dsa_queue": (Queue, "HHBBBBI"),
     "dsa_group": (Group, "QQHH"), "dsa_limits": (Limits, "BB"), "dsa_answer": (Answer, "IIII"),
     "dsa_ending": (Ending, "IIII"), "dsa_entry": (Entry, "IIIIIIHBB"),
-    "dsa_batch": (Batch, "IIIBB"), "dsa_event": (Event, "IIIIIIIHHHHBBBB"),
+    "dsa_batch": (Batch, "IIIBB"), "dsa_event": (Event, "IIIIIIIIHHHHBBBB"),
 }
 _STRUCTS: Dict[str, Any] = {
     name: type(name, (ctypes.Structure,),
@@ -313,13 +315,15 @@ _HEADER = {
         fetch(handle engine:H descriptor:dsa_descriptor)
         start(handle engine:H) finish(handle engine:H cell:I name:I outcome:I)
         command(handle word:I) poll(handle) write_queue(handle queue:H config:dsa_queue)
-        write_group(handle group:H config:dsa_group) clear_error(handle) noted(read)
+        write_group(handle group:H config:dsa_group) clear_error(handle)
+        step(handle event:dsa_event) noted(read)
         history_answer(read position:Q)""",
     "dsa_ending": "fate_at(read position:Q) fate_of(read name:I)",
     "Q": """capacity(read) occupancy(read queue:H) used(read group:H) held(read)
         next_name(read) active(read) awaited(read) history_length(read)
         fates_length(read) phase(read) queue_phase(read queue:H)
-        in_progress(read engine:H) members(read engine:H) size(caps:dsa_caps capacity:Q)""",
+        in_progress(read engine:H) members(read engine:H) size(caps:dsa_caps capacity:Q)
+        awaited_names(read names:I* count:Q) why(read event:dsa_event buffer:char* size:Q)""",
     "I": """open(handle caps:dsa_caps capacity:Q) cell_count(caps:dsa_caps)
         list_count(caps:dsa_caps) caps_of(read caps:>dsa_caps)
         entry_in(read cell:I entry:>dsa_entry) holds(read cell:I name:I)
@@ -344,6 +348,7 @@ _CALLS: Dict[str, Tuple[str, List[Tuple[str, str]]]] = {
                                        .replace("(read", "(handle:dsa_model"))
 }
 _NONE = (1 << 64) - 1  # DSA_NONE
+_NO_MEMORY = _NONE - 1  # DSA_NO_MEMORY
 _NO_PARENT = (1 << 32) - 1
 _TRUTHS = ("dedicated", "member", "interrupt")  # these take True and False
 
@@ -415,6 +420,8 @@ def _bits(name: str, bits: int, value: object) -> int:
 
 def _passed(name: str, kind: str, value: Any) -> Any:
     """An argument as ctypes takes it: a number that fits, or a pointer to a struct."""
+    if kind.endswith("*"):
+        return value
     if kind in _TYPES:
         return _bits(name, _TYPES[kind][0], value)
     if kind.startswith(">") or kind == "dsa_model":
@@ -463,6 +470,11 @@ _T = TypeVar("_T")
 def _read(kind: Type[_T], found: Any) -> _T:
     """A struct that the library gave, as its named tuple."""
     return kind(*[read(getattr(found, field)) for field, read in _READERS[kind]])
+
+
+def _said(event: Any) -> Any:
+    """The event as C reads it: of no command it is the number 0."""
+    return event._replace(command=event.command or 0) if isinstance(event, Event) else event
 
 
 # ---- what needs no device ----
@@ -631,6 +643,26 @@ class Device:
         """Clears the noted error, and gives it: CLEARED, NOTHING."""
         return self._answer("dsa_clear_error")
 
+    def step(self, event: Event) -> Answer:
+        """The step of an event, as history_event gives it, that writes no configuration."""
+        return self._answer("dsa_step", _said(event))
+
+    def why(self, event: Event) -> Optional[str]:
+        """Why `step` would answer the event as it would now, as `./run explain` says it; "": there
+        is no reason, and the step would do what it asks for; None: BAD_ARGUMENT. No step is made.
+        """
+        length = 255
+        for _ in range(2):
+            buffer = ctypes.create_string_buffer(length + 1)
+            length = int(self._call("dsa_why", _said(event), buffer, len(buffer)))
+            if length == _NO_MEMORY:
+                raise MemoryError("there is no memory for the text")
+            if length < len(buffer):
+                return buffer.value.decode("ascii")
+            if length == _NONE:
+                return None
+        raise RuntimeError("another thread made a step of the device")
+
     # counts, and what happened
 
     def capacity(self) -> int:
@@ -661,6 +693,12 @@ class Device:
     def awaited(self) -> Optional[int]:
         """How many entries the active command still waits for; None: none is active."""
         return self._number("dsa_awaited")
+
+    def awaited_names(self) -> List[int]:
+        """The names of these entries: those in the queues, and then those on the engines."""
+        names = (ctypes.c_uint32 * (self.awaited() or 0))()
+        count = self._number("dsa_awaited_names", names, len(names))
+        return list(names)[:count or 0]
 
     def noted(self) -> Optional[Answer]:
         """The noted error, as clear_error would give it; None: none."""

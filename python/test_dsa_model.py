@@ -44,6 +44,9 @@ OWN = dsa.Queue(size=4, threshold=0, dedicated=True, priority=2, max_batch_shift
 GROUP = dsa.Group(queues=0b11, engines=0b1, reserved=4, allowed=4)
 LIMITS = dsa.Limits(max_batch_shift=3, max_xfer_shift=20)
 NOTHING = bytes(64)
+POLL = dsa.Event(kind=dsa.EventKind.POLL, name=0, cell=0, pasid=0, flags=0, size=0, operand=0,
+                 descriptor_pasid=0, client=0, queue=0, group=0, engine=0, operation=0,
+                 portal=dsa.Portal.LIMITED, outcome=dsa.Outcome.SUCCESS, command=None)
 
 
 def enabled(capacity: int = 100) -> dsa.Device:
@@ -138,6 +141,9 @@ class Steps(unittest.TestCase):
                 device.enqcmd(0, 0, Portal.LIMITED, 5, NOTHING)
             self.assertEqual(command(device, Command.DRAIN_ALL).kind, Kind.ACTIVE)
             self.assertEqual((device.active(), device.awaited()), (Command.DRAIN_ALL, 3))
+            self.assertEqual(device.awaited_names(), [0, 1, 2])
+            self.assertEqual(device.why(POLL),
+                             "the command waits for 3 entries, first for 0 in q0")
             self.assertEqual(device.poll().kind, Kind.ACTIVE)
             refused = command(device, Command.DRAIN_ALL)
             self.assertEqual((refused.kind, refused.more, refused.fault),
@@ -148,7 +154,25 @@ class Steps(unittest.TestCase):
             self.assertEqual(command(device, Command.ABORT_ALL).fault, Fault.Busy)
             self.assertEqual(device.poll().kind, Kind.FINISHED)
             self.assertEqual((device.active(), device.awaited()), (None, None))
+            self.assertEqual(device.awaited_names(), [])
+            self.assertIsNone(device.why(POLL._replace(portal=2, kind=EventKind.ENQCMD)))
             self.assertEqual(device.dispatch(0).kind, Kind.IDLE)
+
+    def test_long_reason(self) -> None:
+        """A text has room, however many names it has."""
+        caps, queue = CAPS._replace(total_size=400), SHARED._replace(size=400, threshold=400)
+        with dsa.Device(caps, 1000) as device:
+            device.write_queue(0, queue)
+            device.write_group(0, dsa.Group(queues=1, engines=1, reserved=4, allowed=4))
+            for number in (Command.ENABLE_DEVICE, Command.ENABLE_WQ):
+                self.assertEqual(command(device, number).kind, Kind.ENDED)
+            for _ in range(400):
+                device.enqcmd(0, 0, Portal.LIMITED, 5, NOTHING)
+            drain = POLL._replace(kind=EventKind.COMMAND, command=Command.DRAIN_ALL)
+            names = ", ".join(str(name) for name in range(400))
+            self.assertEqual(device.why(drain), f"the command waits for 400 entries, q0: {names}")
+            self.assertEqual(command(device, Command.DRAIN_ALL).kind, Kind.ACTIVE)
+            self.assertEqual(device.awaited_names(), list(range(400)))
 
     def test_drain_descriptor_waits(self) -> None:
         """A Drain waits for its program's entries alone (c/tests/drains.c)."""
@@ -315,6 +339,18 @@ class Reads(unittest.TestCase):
             self.assertIs(device.queue_phase(0), Phase.ON)
             self.assertIs(device.dispatch(0).kind, Kind.IDLE)
             self.assertIs(device.holds(entry.cell, entry.name), True)
+
+    def test_step(self) -> None:
+        """The events of one device are the steps of another; those that write are refused."""
+        with enabled() as device, enabled() as other:
+            device.enqcmd(0, 0, Portal.UNLIMITED, 5, dsa.descriptor(Operation.MEMMOVE, size=8))
+            finish(device, device.dispatch(0), Outcome.PAGE_FAULT)
+            device.poll()
+            stored = device.history()
+            for event, answer in stored[other.history_length():]:
+                self.assertEqual(other.step(event), answer)
+            self.assertEqual(other.history(), stored)
+            self.assertEqual(other.step(stored[0][0]).kind, Kind.BAD_ARGUMENT)
 
     def test_batch_note(self) -> None:
         """A member fails, and the fenced one after it is abandoned (c/tests/standing.c)."""
@@ -555,6 +591,9 @@ FIELDS = {
                     max_xfer_shift=8, pasid=32),
     dsa.Group: dict(queues=64, engines=64, reserved=16, allowed=16),
     dsa.Limits: dict(max_batch_shift=8, max_xfer_shift=8),
+    dsa.Event: dict(kind=32, name=32, cell=32, pasid=32, flags=32, size=32, operand=32,
+                    descriptor_pasid=32, client=16, queue=16, group=16, engine=16, operation=8,
+                    portal=8, outcome=8),
 }
 
 # each step and each read that takes an argument, with arguments that are right
@@ -569,11 +608,13 @@ STEPS: Dict[str, Arguments] = {
     "finish": [ENGINE, ("cell", 0), ("name", 0), ("outcome", 0)], "command": [("word", 0)],
     "poll": [], "write_queue": [QUEUE, ("config", SHARED)],
     "write_group": [("group", 0), ("config", GROUP)], "clear_error": [],
+    "step": [("event", POLL)],
 }
 READS: Dict[str, Arguments] = {
     **{name: [] for name in ("caps_of", "capacity", "held", "next_name", "active", "awaited",
                              "noted", "phase", "history_length", "history_is_full", "history",
-                             "fates_length", "fates")},
+                             "fates_length", "fates", "awaited_names")},
+    "why": [("event", POLL)],
     "occupancy": [QUEUE], "used": [("group", 0)], "queue_phase": [QUEUE], "queue_config": [QUEUE],
     "group_config": [("group", 0)], "in_progress": [ENGINE], "members": [ENGINE],
     "batch": [ENGINE], "waiting_at": [QUEUE, PLACE], "in_progress_at": [ENGINE, PLACE],
@@ -943,6 +984,32 @@ class Library(unittest.TestCase):
                 dsa._load(self.library)
 
 
+def event_of(run: Any, step: Dict[str, Any]) -> Optional[dsa.Event]:
+    """The event of a step of a document; None: it writes a configuration, or its word is none."""
+    event, kind = POLL, step["do"]
+    if kind in ("queue", "group"):
+        return None
+    if "desc" in step:
+        found = bytes.fromhex(step["desc"]).ljust(64, b"\0")
+        event = event._replace(flags=int.from_bytes(found[4:7], "little"), operation=found[7],
+                               size=int.from_bytes(found[32:36], "little"))
+    if kind in ("enqcmd", "movdir"):
+        portal = Portal.LIMITED if step["limited"] else Portal.UNLIMITED
+        event = event._replace(client=step["client"], queue=step["queue"], portal=portal)
+    if kind == "command":
+        number, operand = step["word"] >> 20 & 31, step["word"] & 0xfffff
+        is_one = number in list(Command) and step["word"] >> 25 & 63 == 0
+        return event._replace(kind=EventKind.COMMAND, command=Command(number),
+                              operand=operand) if is_one else None
+    if kind == "finish":
+        outcome = Outcome.PAGE_FAULT if step["fault"] else Outcome.SUCCESS
+        event = event._replace(name=step["name"], cell=run.cells.get(step["name"], 0),
+                               outcome=outcome)
+    kinds = {"movdir": EventKind.MOVDIR64B, "clear": EventKind.CLEAR_ERROR}
+    return event._replace(kind=kinds.get(kind) or EventKind[kind.upper()],
+                          engine=step.get("engine", 0), pasid=step.get("pasid", 0))
+
+
 class Examples(unittest.TestCase):
     """The programs of python/examples."""
 
@@ -1007,6 +1074,33 @@ class Examples(unittest.TestCase):
                 lines = run_document.lines_of(json.loads(path.read_text(encoding="utf-8")))
                 expected = path.with_suffix(".out").read_text(encoding="utf-8")
                 self.assertEqual("".join(f"{line}\n" for line in lines), expected)
+
+    def test_reasons(self) -> None:
+        """What `why` says before each step of an example is what `./run explain` has behind it."""
+        sys.path.insert(0, str(FOLDER / "examples"))
+        self.addCleanup(sys.path.remove, str(FOLDER / "examples"))
+        run_document = importlib.import_module("run_document")
+        paths = sorted((TOP / "examples").glob("*.explain"))
+        self.assertGreater(len(paths), 30)
+        told = 0
+        for path in paths:
+            document = json.loads(path.with_suffix(".json").read_text(encoding="utf-8"))
+            lines = path.read_text(encoding="utf-8").splitlines()
+            self.assertEqual(len(lines), len(document["steps"]))
+            caps = dsa.Caps(**{key: document["caps"][key] for key in dsa.Caps._fields})
+            with dsa.Device(caps, document["capacity"]) as device:
+                run = run_document.Run(device)
+                for named, step in zip(lines, document["steps"]):
+                    line = re.sub(r" \[\d+ is .*\]$", "", named)  # without own names
+                    event = event_of(run, step)
+                    reason = device.why(event) if event else None
+                    answer = run.answer(step)
+                    if reason is not None:
+                        told += reason != ""
+                        wanted = f" -> {run_document.line_of(answer)}" + (reason and f": {reason}")
+                        with self.subTest(path.name, line=line):
+                            self.assertTrue(line.endswith(wanted), wanted)
+        self.assertGreater(told, 150)
 
 
 if __name__ == "__main__":

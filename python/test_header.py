@@ -183,8 +183,10 @@ class Header(unittest.TestCase):
                  for command in dsa.Command for operand in (0, 5, 0xfffff)}
         statements = [number(name, f"DSA_COMMAND({command.value}, {operand}u)")
                       for name, (command, operand) in words.items()]
-        found = printed([*statements, number("none", "DSA_NONE"), number("version", "DSA_VERSION")])
+        found = printed([*statements, number("none", "DSA_NONE"), number("version", "DSA_VERSION"),
+                         number("no memory", "DSA_NO_MEMORY")])
         self.assertEqual(found.pop("none"), str(dsa._NONE))
+        self.assertEqual(found.pop("no memory"), str(dsa._NO_MEMORY))
         self.assertEqual(int(found.pop("version")) // 1000, dsa.VERSION // 1000)
         self.assertEqual(found, {name: str(dsa.command_word(*it)) for name, it in words.items()})
 

@@ -91,7 +91,7 @@ def part_of(text, document, line):
 
 def offset_of(node, reason):
     """Where that is which a reason points to."""
-    if reason is None or reason["rest"] == "is missing":
+    if reason is None or (reason["rest"] or "").startswith("is missing"):
         return node.begin
     if reason["found"] is not None:
         return node.last(reason["found"])[1]

@@ -32,7 +32,7 @@ fn sizes() {
             size_of::<dsa_batch>(),
             size_of::<dsa_event>()
         ),
-        (28, 16, 40)
+        (28, 16, 44)
     );
 }
 
@@ -98,6 +98,18 @@ fn enabled() -> dsa_model {
     model
 }
 
+/// Why a step of this kind would be answered as it would.
+unsafe fn reason(model: &dsa_model, kind: u32) -> Vec<u8> {
+    let event = dsa_event {
+        kind,
+        ..core::mem::zeroed()
+    };
+    let mut buffer = [1; 64];
+    let length = dsa_why(model, &event, buffer.as_mut_ptr(), 64) as usize;
+    assert_eq!(buffer[length], 0);
+    buffer[..length].iter().map(|byte| *byte as u8).collect()
+}
+
 fn main() {
     sizes();
     names();
@@ -119,6 +131,8 @@ fn main() {
         let done = dsa_finish(&mut model, 0, taken.cell, taken.name, DSA_SUCCESS);
         assert_eq!((done.kind, done.more), (DSA_DONE, DSA_STATUS_SUCCESS));
         assert_eq!(dsa_fate_of(&model, taken.name).kind, DSA_COMPLETED);
+        assert_eq!(reason(&model, DSA_EVENT_POLL), b"no command is active");
+        assert_eq!(reason(&model, DSA_EVENT_DISPATCH), b"q0 is empty");
         dsa_close(&mut model);
         assert_eq!((dsa_held(&model), dsa_closed().holds), (DSA_NONE, false));
         dsa_close(core::ptr::null_mut());

@@ -7,7 +7,7 @@
 
 #define CALLS(it) \
 	it(enqcmd) it(movdir64b) it(dispatch) it(dispatch_from) it(fetch) it(start) it(finish) \
-	it(command) it(poll) it(write_queue) it(write_group) it(clear_error) it(noted) \
+	it(command) it(poll) it(write_queue) it(write_group) it(clear_error) it(step) it(noted) \
 	it(history_answer)
 #define NUMBER(name) CALL_##name,
 #define NAME(name) "dsa_" #name,
@@ -127,6 +127,22 @@ static struct dsa_answer try_write_group(struct dsa_model *device)
 static struct dsa_answer try_clear_error(struct dsa_model *device)
 {
 	return dsa_clear_error(device);
+}
+
+/* An event of any kind, and seldom of none. */
+static struct dsa_answer try_step(struct dsa_model *device)
+{
+	static const uint8_t commands[] = { DSA_ENABLE_DEVICE, DSA_ENABLE_WQ, DSA_ENABLE_WQ, DSA_DRAIN_ALL };
+	struct dsa_answer ticket = tickets[below(TICKETS)];
+	struct dsa_event event = { .kind = 1 + below(12), .name = ticket.name, .cell = ticket.cell, .pasid = 5,
+		.size = 64u << 4 * below(3), .queue = mostly_below(2), .engine = mostly_below(1),
+		.portal = (uint8_t)mostly_below(2), .outcome = (uint8_t)mostly_below(2), .operand = below(2) };
+	event.operation = below(4) == 0 ? DSA_OP_BATCH : DSA_OP_MEMMOVE;
+	event.flags = below(3) == 0 && event.kind == DSA_EVENT_FETCH;
+	if (event.operation == DSA_OP_BATCH)
+		event.size = 1 + below(3);
+	event.command = below(16) == 0 ? (uint8_t)below(16) : commands[below(4)];
+	return keep(dsa_step(device, &event));
 }
 
 static struct dsa_answer try_noted(struct dsa_model *device)

@@ -1,5 +1,5 @@
-/* What dsa_open asks of malloc is what dsa_size says, and each way to close a device gives it back. No other call takes memory.
- * The linker sends the library's calls of malloc, calloc, realloc and free here. */
+/* What dsa_open asks of malloc is what dsa_size says, and each way to close a device gives it back. Of the other calls only dsa_why
+ * takes memory. The linker sends the library's calls of malloc, calloc, realloc and free here. */
 #include "check.h"
 
 void *__real_malloc(size_t size);

@@ -1,6 +1,7 @@
 /* The object of C++: it opens and closes one device, and moves it. */
 #include <cstdio>
 #include <cstdlib>
+#include <cstring>
 #include <type_traits>
 #include <utility>
 #include "dsa_model.hpp"
@@ -44,6 +45,11 @@ static void each_step(dsa::device &device)
 	CHECK(device.enqcmd(0, 0, DSA_LIMITED, 5, batch).kind == DSA_ACCEPTED);
 	CHECK(device.movdir64b(0, 0, DSA_LIMITED, nothing).kind == DSA_DROPPED);
 	CHECK(device.clear_error().kind == DSA_CLEARED);
+	struct dsa_event poll = dsa_event();
+	poll.kind = DSA_EVENT_POLL;
+	char reason[32];
+	CHECK(device.why(poll, reason, sizeof reason) == 20 && std::strcmp(reason, "no command is active") == 0);
+	CHECK(device.step(poll).kind == DSA_NOTHING);
 	const dsa::answer taken = device.dispatch(0);
 	CHECK(taken.kind == DSA_TAKEN);
 	for (int member = 0; member < 2; member++) {

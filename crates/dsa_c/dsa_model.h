@@ -11,9 +11,9 @@
  *     dsa_model says where it is closed, and how it is moved.
  *   - Calls on one handle come one at a time, reads too: threads that share one take a lock around
  *     each call. Different handles are independent.
- *   - dsa_open and dsa_close take and free memory: they are not for signal handlers, nor for the child
- *     of a fork of a process with threads. The other calls take no memory, so a handler may make them,
- *     unless it interrupts a call on the same handle.
+ *   - dsa_open, dsa_close and dsa_why take and free memory: they are not for signal handlers, nor for
+ *     the child of a fork of a process with threads. The other calls take no memory, so a handler may
+ *     make them, unless it interrupts a call on the same handle.
  * All numbers may be wrong: a queue, group or engine that the device does not have, a portal, an
  * outcome, a word. They are answered.
  *
@@ -143,7 +143,7 @@ enum dsa_kind {
 	DSA_WRITTEN = 21,
 	DSA_CLEARED = 22,     /* name: the queue; cell: 1 if more were dropped since, else 0; more: enum dsa_cause */
 	DSA_FULL = 23,        /* the history has no room; nothing changed */
-	DSA_BAD_ARGUMENT = 24 /* a portal, an outcome or a 0-or-1 that is neither; nothing changed */
+	DSA_BAD_ARGUMENT = 24 /* a portal, an outcome or a 0-or-1 that is neither, or no event for dsa_step; nothing changed */
 };
 enum dsa_cause { DSA_AT_LIMIT = 1, DSA_NOT_ENABLED = 2, DSA_WRONG_KIND = 3 };
 
@@ -211,10 +211,10 @@ struct dsa_batch {
 };
 
 enum dsa_event_kind {
-	DSA_EVENT_ENQCMD = 1,       /* client, queue, portal, pasid; operation, flags, size */
-	DSA_EVENT_MOVDIR64B = 2,    /* client, queue, portal; operation, flags, size */
+	DSA_EVENT_ENQCMD = 1,       /* client, queue, portal, pasid; operation, flags, size, descriptor_pasid */
+	DSA_EVENT_MOVDIR64B = 2,    /* client, queue, portal; operation, flags, size, descriptor_pasid */
 	DSA_EVENT_DISPATCH = 3,     /* engine */
-	DSA_EVENT_FETCH = 4,        /* engine; operation, flags, size */
+	DSA_EVENT_FETCH = 4,        /* engine; operation, flags, size, descriptor_pasid */
 	DSA_EVENT_START = 5,        /* engine */
 	DSA_EVENT_FINISH = 6,       /* engine, name, cell, outcome */
 	DSA_EVENT_COMMAND = 7,      /* command, operand */
@@ -224,8 +224,8 @@ enum dsa_event_kind {
 	DSA_EVENT_CLEAR_ERROR = 11
 };
 
-/* An event of the history: the call that was made. Numbers that its kind does not speak of are 0. Of a descriptor it has what
- * dsa_entry has, but for the PASID. dsa_history_queue_config and dsa_history_group_config tell which configuration was written. */
+/* An event of the history: the call that was made. Numbers that its kind does not name are 0. Of a descriptor it has all that
+ * the model reads. dsa_history_queue_config and dsa_history_group_config give the configuration that was written. */
 struct dsa_event {
 	uint32_t kind;      /* enum dsa_event_kind */
 	uint32_t name;
@@ -234,6 +234,7 @@ struct dsa_event {
 	uint32_t flags;
 	uint32_t size;
 	uint32_t operand;   /* 0 where the command takes none; DSA_COMMAND(command, operand) is a word of the command */
+	uint32_t descriptor_pasid; /* the PASID in the descriptor's bytes, which has no effect */
 	uint16_t client;
 	uint16_t queue;
 	uint16_t group;
@@ -248,8 +249,9 @@ enum dsa_open_result {
 	DSA_OPENED = 0, DSA_BAD_CAPS = 1, DSA_BAD_CAPACITY = 2, DSA_BAD_STORE = 3, DSA_OUT_OF_MEMORY = 4, DSA_ALREADY_OPEN = 5
 };
 
-/* Where a number is not to be had. */
+/* Where a number is not to be had, and where dsa_why is refused memory. */
 #define DSA_NONE UINT64_MAX
+#define DSA_NO_MEMORY (UINT64_MAX - 1)
 
 /* ---- the device ---- */
 
@@ -317,6 +319,16 @@ struct dsa_answer dsa_write_group(struct dsa_model *handle, uint16_t group, cons
 /* Answers: DSA_CLEARED, DSA_NOTHING, DSA_FULL, DSA_NO_DEVICE. */
 struct dsa_answer dsa_clear_error(struct dsa_model *handle);
 
+/* The step of an event, as dsa_history_event gives it: that of the call of its kind, with these numbers. So a program makes the
+ * steps of one device again on another. DSA_BAD_ARGUMENT: its kind is none of these, or writes a configuration, for which
+ * there are dsa_write_queue and dsa_write_group; or its portal, its outcome or its command is none. The device itself chooses the
+ * queue of a dispatch; dsa_dispatch_from takes from the one that was taken from. */
+/* Answers: DSA_ACCEPTED, DSA_RETRY, DSA_DROPPED, DSA_TAKEN, DSA_IDLE, DSA_FETCHED, DSA_NO_BATCH,
+ * DSA_ALL_FETCHED, DSA_STARTED, DSA_FENCE_WAIT, DSA_NO_BUFFERS, DSA_ABANDONED, DSA_NOTHING, DSA_DONE,
+ * DSA_NOT_READY, DSA_GONE, DSA_ENDED, DSA_ACTIVE, DSA_REFUSED, DSA_FINISHED, DSA_CLEARED, DSA_FULL,
+ * DSA_NO_DEVICE, DSA_BAD_ARGUMENT. */
+struct dsa_answer dsa_step(struct dsa_model *handle, const struct dsa_event *event);
+
 /* ---- reads: none changes the device or the handle; each gives DSA_NONE, DSA_NO_DEVICE,
  * DSA_NOT_ENDED or 0 on a closed handle ---- */
 
@@ -333,6 +345,9 @@ uint64_t dsa_next_name(const struct dsa_model *handle);
 uint64_t dsa_active(const struct dsa_model *handle);
 /* Entries that the active command still waits for; DSA_NONE: none is active. */
 uint64_t dsa_awaited(const struct dsa_model *handle);
+/* The same number. It writes the names of these entries, as many as there is room for: first those in the queues, then those in
+ * progress on the engines and the members on them, each list by its number and from its front. */
+uint64_t dsa_awaited_names(const struct dsa_model *handle, uint32_t *names, uint64_t count);
 /* Stored steps; the history is full at dsa_capacity. */
 uint64_t dsa_history_length(const struct dsa_model *handle);
 /* 1: each step is answered DSA_FULL; 0: the history is not full. */
@@ -394,6 +409,15 @@ uint32_t dsa_history_queue_config(const struct dsa_model *handle, uint64_t posit
                                   struct dsa_queue *config);
 uint32_t dsa_history_group_config(const struct dsa_model *handle, uint64_t position,
                                   struct dsa_group *config);
+
+/* ---- reasons ---- */
+
+/* Why a step of the event would be answered as it would, if dsa_step made it now: the sentence that `./run explain` has behind the
+ * answer (docs/EXPLAIN.md), in ASCII. Nothing is stored and nothing changes. It writes the text and a zero to the buffer, as far as
+ * there is room for `size` bytes, and gives the length of the whole text, as snprintf does. The length is 0 where there is no reason:
+ * the step would do what it asks for. DSA_NONE: the handle is closed, or dsa_step would answer DSA_BAD_ARGUMENT. DSA_NO_MEMORY:
+ * memory for the text was refused. With these two the buffer has an empty text. The buffer is not null, even where `size` is 0. */
+uint64_t dsa_why(const struct dsa_model *handle, const struct dsa_event *event, char *buffer, uint64_t size);
 
 /* ---- descriptors: these need no device; `member` is 0 for one that is submitted, else it is in a batch ---- */
 

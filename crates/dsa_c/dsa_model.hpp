@@ -59,6 +59,11 @@ public:
 	answer write_group(uint16_t group, const struct dsa_group &config) noexcept
 	{ return dsa_write_group(&at, group, &config); }
 	answer clear_error() noexcept { return dsa_clear_error(&at); }
+	answer step(const struct dsa_event &event) noexcept { return dsa_step(&at, &event); }
+
+	/* Why a step of the event would be answered as it would, as of dsa_why. */
+	uint64_t why(const struct dsa_event &event, char *buffer, uint64_t size) const noexcept
+	{ return dsa_why(&at, &event, buffer, size); }
 
 private:
 	struct dsa_model at;

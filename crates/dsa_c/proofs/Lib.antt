@@ -1,2 +1,5 @@
 pub mod Machines
+pub mod Naming
+pub mod Offers
+pub mod Placing
 pub mod Unboxing

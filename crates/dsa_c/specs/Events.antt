@@ -1,8 +1,11 @@
 -- The events of the history, for C.
-use Rattle.std.specs.Prelude.{ℕ, Option, None, Some, option_map, slice_get}
+use Rattle.std.specs.Prelude.{◌≡◌, ℕ, ◌+◌, ◌*◌, ◌^◌, ◌==◌, nat_lt, cond, ⊤, List, [], ◌∷◌, Option, None, Some}
+use Rattle.std.specs.Prelude.{option_map, option_and_then, slice_get, Result, Ok, Err}
+use Rattle.dsa_base.specs.Rows.{first_row}
 use Rattle.dsa_desc.specs.declared.{Outcome.{Outcome, TheVariants.{Success, PageFault}}, Descriptor.{Descriptor}}
 use Rattle.dsa_regs.specs.declared.{QueueConfig.{QueueConfig}, GroupConfig.{GroupConfig}}
-use Rattle.dsa_regs.specs.Command.{number_of_command, scope_of, operand_of_scope}
+use Rattle.dsa_regs.specs.Command.{number_of_command, scope_of, operand_of_scope, command_of, word_of}
+use Rattle.dsa_regs.specs.declared.{Command.{Command}, Fault.{Fault}}
 use Rattle.dsa_book.specs.declared.answer.Ticket.{Ticket}
 use Rattle.dsa_book.specs.declared.event.Portal.{Portal, TheVariants.{Limited, Unlimited}}
 use Rattle.dsa_book.specs.declared.event.Kind.{Kind, TheVariants.{Enqcmd, Movdir64b}}
@@ -10,6 +13,7 @@ use Rattle.dsa_book.specs.declared.event.Event.{Event}
 use Rattle.dsa_book.specs.declared.event.Event.TheVariants.{Submit, Dispatch, Fetch, Start, Finish, Issue, Poll}
 use Rattle.dsa_book.specs.declared.event.Event.TheVariants.{WriteQueue, WriteGroup, ClearError}
 use Rattle.dsa_device.specs.Running.{Running}
+use Rattle.dsa_c.specs.Calls.{finishing, portal_from_c}
 use Rattle.dsa_c.specs.declared.events.DeviceEvent.{DeviceEvent}
 use Rattle.dsa_c.specs.declared.numbers.TheConstants.{LIMITED, UNLIMITED, SUCCESS, PAGE_FAULT}
 use Rattle.dsa_c.specs.declared.numbers.TheConstants.{EVENT_ENQCMD, EVENT_MOVDIR64B, EVENT_DISPATCH, EVENT_FETCH}
@@ -34,6 +38,7 @@ of_kind kind = record {
   flags = 0;
   size = 0;
   operand = 0;
+  descriptor_pasid = 0;
   client = 0;
   queue = 0;
   group = 0;
@@ -49,7 +54,12 @@ of_engine kind engine = record (of_kind kind) { engine = engine }
 
 -- the event with what the device reads of its descriptor
 abbrev pub with_descriptor : Descriptor → DeviceEvent → DeviceEvent
-with_descriptor desc event = record event { operation = desc.op; flags = desc.flags; size = desc.size }
+with_descriptor desc event = record event {
+  operation = desc.op;
+  flags = desc.flags;
+  size = desc.size;
+  descriptor_pasid = desc.pasid;
+}
 
 abbrev pub of_instruction : Kind → DeviceEvent
 of_instruction (Enqcmd pasid) = record (of_kind EVENT_ENQCMD) { pasid = pasid }
@@ -97,3 +107,52 @@ queue_written _ = None
 abbrev pub group_written : Event → Option GroupConfig
 group_written (WriteGroup group config) = Some config
 group_written _ = None
+
+-- ---- what an event for C asks for
+
+abbrev pub descriptor_from_c : DeviceEvent → Descriptor
+descriptor_from_c event = record {
+  pasid = event.descriptor_pasid;
+  flags = event.flags;
+  op = event.operation;
+  size = event.size;
+}
+
+-- a submission by this instruction, where the number of its portal is one
+abbrev pub submission_said : Kind → DeviceEvent → Option Event
+submission_said kind event =
+    option_map (λ portal. Submit event.client event.queue portal kind (descriptor_from_c event))
+    (portal_from_c event.portal)
+
+abbrev pub finish_said : DeviceEvent → Option Event
+finish_said event = finishing event.engine event.cell event.name event.outcome
+
+-- the command of a word, if it is one
+abbrev pub issue_of : Result Command Fault → Option Event
+issue_of (Ok command) = Some (Issue command)
+issue_of (Err fault) = None
+
+-- the command with this number and operand, where the operand has no more than its 20 bits
+abbrev pub command_said : DeviceEvent → Option Event
+command_said event =
+    cond (nat_lt event.operand (2 ^ 20)) (issue_of (command_of (2 ^ 20 * event.command + event.operand))) None
+
+-- the event that C describes, by its kind; none of another kind, or that writes a configuration
+abbrev pub event_from_c : DeviceEvent → Option Event
+event_from_c event = option_and_then (λ said. said) (first_row (
+    (event.kind == EVENT_ENQCMD, submission_said (Enqcmd event.pasid) event) ∷
+    (event.kind == EVENT_MOVDIR64B, submission_said Movdir64b event) ∷
+    (event.kind == EVENT_DISPATCH, Some (Dispatch event.engine)) ∷
+    (event.kind == EVENT_FETCH, Some (Fetch event.engine (descriptor_from_c event))) ∷
+    (event.kind == EVENT_START, Some (Start event.engine)) ∷
+    (event.kind == EVENT_FINISH, finish_said event) ∷
+    (event.kind == EVENT_COMMAND, command_said event) ∷
+    (event.kind == EVENT_POLL, Some Poll) ∷
+    (event.kind == EVENT_CLEAR_ERROR, Some ClearError) ∷ []))
+
+-- it writes a configuration, or is a command of which there is no word
+abbrev pub IsWrite : Event → Type 0
+IsWrite (WriteQueue queue config) = ⊤
+IsWrite (WriteGroup group config) = ⊤
+IsWrite (Issue command) = word_of command ≡ None
+IsWrite _ = ⊥

@@ -1,7 +1,9 @@
 pub mod Answers
+pub mod Buffers
 pub mod Calls
 pub mod Events
 pub mod Lending
 pub mod Opening
 pub mod Place
 pub mod Reads
+pub mod Why

@@ -1,12 +1,15 @@
 //! The events of the history as numbers.
 
-ghost use Rattle.std.specs.Prelude.{◌≡◌, option_and_then};
-ghost use Rattle.dsa_c.specs.Calls.{IsReadAs, asked_for};
+ghost use Rattle.std.specs.Prelude.{◌≡◌, Some, option_and_then};
+ghost use Rattle.dsa_c.specs.Calls.{IsCall, IsReadAs, asked_for};
 ghost use Rattle.dsa_c.specs.Reads.{IsReadForC, queue_for_c, group_for_c};
 ghost use Rattle.dsa_c.specs.Events.{portal_number, outcome_number, of_kind, of_engine};
 ghost use Rattle.dsa_c.specs.Events.{with_descriptor, of_instruction, of_finish, event_for_c};
 ghost use Rattle.dsa_c.specs.Events.{event_at, queue_written, group_written};
+ghost use Rattle.dsa_c.specs.Events.{command_said, descriptor_from_c, event_from_c};
+ghost use Rattle.dsa_c.specs.Events.{finish_said, submission_said, IsWrite};
 
+use crate::answer::Answer;
 use crate::handle::{Handle, let_device};
 use crate::numbers::{
     EVENT_CLEAR_ERROR, EVENT_COMMAND, EVENT_DISPATCH, EVENT_ENQCMD, EVENT_FETCH, EVENT_FINISH,
@@ -14,10 +17,11 @@ use crate::numbers::{
     PAGE_FAULT, SUCCESS, UNLIMITED,
 };
 use crate::standing::{write_group, write_queue};
-use crate::steps::{DeviceGroup, DeviceQueue};
+use crate::steps::{DeviceGroup, DeviceQueue, outcome_of, portal_of};
 use dsa_book::{Event, Kind, Portal, Ticket};
 use dsa_desc::{Descriptor, Outcome};
-use dsa_regs::{GroupConfig, QueueConfig};
+use dsa_regs::{CommandWord, GroupConfig, QueueConfig};
+use dsa_store::Cell;
 
 /// An event: its kind, and the numbers that it speaks of.
 #[repr(C)]
@@ -30,6 +34,7 @@ pub struct DeviceEvent {
     pub flags: u32,
     pub size: u32,
     pub operand: u32,
+    pub descriptor_pasid: u32,
     pub client: u16,
     pub queue: u16,
     pub group: u16,
@@ -69,6 +74,7 @@ fn of_kind(kind: u32) -> DeviceEvent
         flags: 0,
         size: 0,
         operand: 0,
+        descriptor_pasid: 0,
         client: 0,
         queue: 0,
         group: 0,
@@ -96,6 +102,7 @@ fn with_descriptor(desc: Descriptor, event: DeviceEvent) -> DeviceEvent
         operation: desc.op,
         flags: desc.flags,
         size: desc.size,
+        descriptor_pasid: desc.pasid,
         ..event
     }
 }
@@ -236,4 +243,103 @@ pub extern "C" fn dsa_history_group_config(
 {
     let written = event_at(handle, position).and_then(|event| group_written(event));
     write_group(written, config)
+}
+
+// ---- events as steps
+
+fn descriptor_of(event: &DeviceEvent) -> Descriptor
+    ensures { result ≡ descriptor_from_c event.now }
+{
+    Descriptor {
+        pasid: event.descriptor_pasid,
+        flags: event.flags,
+        op: event.operation,
+        size: event.size,
+    }
+}
+
+fn submission_said(kind: Kind, event: &DeviceEvent) -> Option<Event>
+    ensures { result ≡ submission_said kind event.now }
+{
+    let portal = portal_of(u32::from(event.portal))?;
+    Some(Event::Submit {
+        client: event.client,
+        queue: event.queue,
+        portal,
+        kind,
+        desc: descriptor_of(event),
+    })
+}
+
+fn finish_said(event: &DeviceEvent) -> Option<Event>
+    ensures { result ≡ finish_said event.now }
+{
+    let outcome = outcome_of(u32::from(event.outcome))?;
+    let ticket = Ticket {
+        cell: Cell(event.cell),
+        name: event.name,
+    };
+    Some(Event::Finish {
+        engine: event.engine,
+        ticket,
+        outcome,
+    })
+}
+
+fn command_said(event: &DeviceEvent) -> Option<Event>
+    ensures { result ≡ command_said event.now }
+{
+    if event.operand >= 1 << 20 {
+        return None;
+    }
+    match CommandWord::parse((u32::from(event.command) << 20) + event.operand) {
+        Ok(command) => Some(Event::Issue { command }),
+        Err(_) => None,
+    }
+}
+
+// The event that C describes, where it is none that writes a configuration.
+pub(crate) fn event_from_c(event: &DeviceEvent) -> Option<Event>
+    ensures { result ≡ event_from_c event.now }
+{
+    let engine = event.engine;
+    match event.kind {
+        EVENT_ENQCMD => submission_said(Kind::Enqcmd { pasid: event.pasid }, event),
+        EVENT_MOVDIR64B => submission_said(Kind::Movdir64b, event),
+        EVENT_DISPATCH => Some(Event::Dispatch { engine }),
+        EVENT_FETCH => Some(Event::Fetch {
+            engine,
+            desc: descriptor_of(event),
+        }),
+        EVENT_START => Some(Event::Start { engine }),
+        EVENT_FINISH => finish_said(event),
+        EVENT_COMMAND => command_said(event),
+        EVENT_POLL => Some(Event::Poll),
+        EVENT_CLEAR_ERROR => Some(Event::ClearError),
+        _ => None,
+    }
+}
+
+/// The step of an event that writes no configuration.
+#[unsafe(no_mangle)]
+pub extern "C" fn dsa_step(handle: &mut Handle, event: &DeviceEvent) -> Answer
+    ensures { IsCall handle.old.place.machine (event_from_c event.now) result
+        handle.new.place.machine }
+{
+    let Some(event) = event_from_c(event) else {
+        return Answer::bad_argument();
+    };
+    let_device!(device, handle, Answer::no_device());
+    Answer::of(device.step(event))
+}
+
+// What C reads of an event describes it, unless it writes a configuration, or is a command whose
+// operand no word has.
+#[allow(dead_code)]
+fn events_describe_themselves(event: Event)
+    ensures { ¬ IsWrite event → event_from_c (event_for_c event) ≡ Some event }
+{
+    if let Event::Issue { command } = event {
+        let _ = command.word();
+    }
 }

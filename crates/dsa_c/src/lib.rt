@@ -3,6 +3,8 @@
 #![tactic(auto)]
 
 mod answer;
+mod awaited;
+mod buffers;
 mod events;
 mod handle;
 mod numbers;
@@ -12,4 +14,5 @@ mod reads;
 mod standing;
 mod steps;
 mod unboxed;
+mod why;
 mod words;

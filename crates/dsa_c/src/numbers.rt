@@ -71,3 +71,6 @@ pub(crate) const ALREADY_OPEN: u32 = 5;
 
 /// Where a number of 64 bits is not to be had.
 pub(crate) const NONE: u64 = u64::MAX;
+
+/// Where memory is refused.
+pub(crate) const NO_MEMORY: u64 = u64::MAX - 1;

@@ -46,7 +46,7 @@ pub struct DeviceGroup {
     pub allowed: u16,
 }
 
-fn portal_of(number: u32) -> Option<Portal>
+pub(crate) fn portal_of(number: u32) -> Option<Portal>
     ensures { result ≡ portal_from_c number }
 {
     match number {

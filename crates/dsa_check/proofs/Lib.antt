@@ -3,6 +3,7 @@ pub mod Firsts
 pub mod Items
 pub mod Keys
 pub mod Nearest
+pub mod OneLine
 pub mod OneObject
 pub mod ReadTexts
 pub mod Remarked

@@ -1,11 +1,11 @@
 -- What is wrong with some objects, in words.
 use Rattle.dsa_scenario.specs.declared.fields.Form.TheVariants as form
 use Rattle.std.proofs.Common.{◌≡◌, ℕ, false, List, [], ◌∷◌, codes, refl}
-use Rattle.serde_json.specs.Data.{null}
+use Rattle.serde_json.specs.Data.{null, string}
 use Rattle.dsa_scenario.specs.Worked.{object_of, poll_step, step_of_kind}
 use Rattle.dsa_check.specs.declared.fields.Found.TheVariants as found
 use Rattle.dsa_check.specs.declared.fields.Key.{Key}
-use Rattle.dsa_check.specs.declared.finding.Reason.{Reason, TheVariants.{Missing, NoObject}}
+use Rattle.dsa_check.specs.declared.finding.Reason.{Reason, TheVariants.{Missing, Expandable, NoObject}}
 use Rattle.dsa_check.specs.{OneStep.{AreStepTexts, AreKeyTexts}, Reasons.{AreStepReasons}}
 
 abbrev pub key_named : List ℕ → Key
@@ -18,7 +18,7 @@ null_texts = (NoObject found.Null ∷ [], refl, refl)
 pub no_kind_texts : AreStepTexts (object_of []) (codes "\"do\" is missing" ∷ [])
 no_kind_texts = (
   Missing (key_named (codes "do")) ∷ [],
-  (refl, record { key = _; named = refl; holder = refl; so = refl; stray = tt; near = refl }),
+  (refl, record { key = _; named = refl; holder = refl; so = refl; stray = tt; near = (refl, refl) }),
   refl,
 )
 
@@ -26,7 +26,15 @@ pub command_texts : AreStepTexts (object_of ((codes "zf", null) ∷ step_of_kind
     (codes "\"word\" is missing" ∷ codes "\"zf\" is null, true or false is wanted" ∷ [])
 command_texts = (
   Missing (key_named (codes "word")) ∷ [],
-  (record { key = _; named = refl; holder = refl; so = refl; stray = tt; near = refl }, tt),
+  (record { key = _; named = refl; holder = refl; so = refl; stray = tt; near = (refl, refl) }, tt),
+  refl,
+)
+
+pub called_texts : AreStepTexts (object_of ((codes "command", string (codes "poll")) ∷ step_of_kind (codes "command") []))
+    (codes "\"word\" is missing (dsa_run expand writes it)" ∷ [])
+called_texts = (
+  Expandable (key_named (codes "word")) ∷ [],
+  (record { key = _; named = refl; holder = refl; so = refl; stray = tt; near = (refl, refl) }, tt),
   refl,
 )
 
@@ -34,7 +42,7 @@ pub no_step_texts : AreKeyTexts (object_of (step_of_kind (codes "explain") [])) 
     (codes "\"step\" is missing" ∷ [])
 no_step_texts = (
   Missing (key_named (codes "step")) ∷ [],
-  (record { key = _; named = refl; holder = refl; so = refl; stray = tt; near = refl }, tt),
+  (record { key = _; named = refl; holder = refl; so = refl; stray = tt; near = (refl, refl) }, tt),
   refl,
 )
 

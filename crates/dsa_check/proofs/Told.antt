@@ -17,13 +17,13 @@ use Rattle.dsa_scenario.specs.declared.faults.ScenarioFault.{ScenarioFault, TheV
 use Rattle.dsa_scenario.specs.declared.fields.{Field.{Field}, Form.{Form}}
 use Rattle.dsa_check.specs.declared.fields.Key.{Key}
 use Rattle.dsa_check.specs.declared.finding.Reason.{Reason, TheVariants.{Missing, Misspelled, Unfit, OddDigits}}
-use Rattle.dsa_check.specs.declared.finding.Reason.TheVariants.{ManyDigits, NoDigit}
+use Rattle.dsa_check.specs.declared.finding.Reason.TheVariants.{ManyDigits, NoDigit, Expandable}
 use Rattle.dsa_check.specs.declared.finding.Finding.{Finding}
 use Rattle.dsa_check.specs.Findings.{Appends, AppendsAll, AreInCaps, IsOfOne, IsOfAny, IsFounded, AreFounded}
 use Rattle.dsa_check.specs.Judgement.{step_items_of}
 use Rattle.dsa_check.specs.Reasons.{is_unfit, near_key, IsStrayKey, IsReasonAt, AreReasonsAt, AreReasonsOf}
 use Rattle.dsa_check.specs.Reasons.{reason_of_digits, text_reason, unfit_reason, first_no_digit, found_of, kind_row}
-use Rattle.dsa_check.specs.Reasons.{HasStrayKey, TellsNearKey, IsKindReason}
+use Rattle.dsa_check.specs.Reasons.{HasStrayKey, TellsNearKey, IsKindReason, expands_missing}
 use Rattle.dsa_scenario.specs.Fields.{Row, row_of_field}
 use Rattle.dsa_check.specs.Tables.{caps_rows}
 use Rattle.dsa_check.proofs.Items.{item_at}
@@ -162,9 +162,14 @@ module _ (d : Data) (rows : List Row) (in_caps : Bool) where
 
   -- a key that is missing, and one that may be there under another name
   pub missing_at : (row : Row) (key : Key) → key.name.now ≡ row.0 → key.in_caps ≡ in_caps → None ≡ get row.0 d
-      → None ≡ near_key d rows row.0 → IsReasonAt d rows in_caps row (Missing key)
-  missing_at row key named holder none near =
-      record { key = key; named = named; holder = holder; so = rw (← none) refl; stray = tt; near = sym near }
+      → None ≡ near_key d rows row.0 → expands_missing d row.0 ≡ false → IsReasonAt d rows in_caps row (Missing key)
+  missing_at row key named holder none near unwritten =
+      record { key = key; named = named; holder = holder; so = rw (← none) refl; stray = tt; near = (sym near, unwritten) }
+
+  pub expandable_at : (row : Row) (key : Key) → key.name.now ≡ row.0 → key.in_caps ≡ in_caps → None ≡ get row.0 d
+      → None ≡ near_key d rows row.0 → expands_missing d row.0 ≡ true → IsReasonAt d rows in_caps row (Expandable key)
+  expandable_at row key named holder none near written =
+      record { key = key; named = named; holder = holder; so = rw (← none) refl; stray = tt; near = (sym near, written) }
 
   pub misspelled_at : (row : Row) (key : Key) (found : String Global) → key.name.now ≡ row.0 → key.in_caps ≡ in_caps
       → None ≡ get row.0 d → IsStrayKey d rows (string_bytes found) → Some (string_bytes found) ≡ near_key d rows row.0

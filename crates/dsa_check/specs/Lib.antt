@@ -5,6 +5,7 @@ pub mod Judgement
 pub mod Lines
 pub mod Members
 pub mod Objects
+pub mod OneLine
 pub mod OneStep
 pub mod Places
 pub mod Reasons

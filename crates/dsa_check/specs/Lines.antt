@@ -5,7 +5,7 @@ use Rattle.dsa_scenario.specs.declared.fields.Form.TheVariants as form
 use Rattle.dsa_check.specs.declared.fields.Found.TheVariants as found
 use Rattle.std.specs.Prelude.{ℕ, Bool, true, false, List, [], ◌∷◌, ◌++◌, Option, Some, None, codes, decimal}
 use Rattle.std.specs.Prelude.{option_map}
-use Rattle.std.specs.Prelude.{nat_lt, if◌then◌else◌}
+use Rattle.std.specs.Prelude.{nat_lt, if◌then◌else◌, not, ◌&&◌}
 use Rattle.std.specs.Fmt.{signed_decimal}
 use Rattle.std.specs.Prelude.{String, string_bytes}
 use Rattle.std.specs.declared.alloc.Global.{Global}
@@ -21,6 +21,7 @@ use Rattle.dsa_check.specs.declared.syntax.Syntax.{Syntax, TheVariants.{TooDeep,
 use Rattle.dsa_check.specs.declared.syntax.Piece.{Piece, TheVariants.{End, LineBreak, Tab, Control, Character}}
 use Rattle.dsa_check.specs.declared.syntax.Piece.TheVariants.{ByteOrderMark, Told, Text, Number, Word}
 use Rattle.dsa_check.specs.declared.syntax.Wanted.{Wanted}
+use Rattle.dsa_check.specs.Reasons.{expands_found}
 
 -- ---- what is wrong (profile)
 
@@ -69,9 +70,19 @@ wanted_of found (form.Whole least most) = bound_text found least most
 wanted_of found (form.Bounded field least most) = bound_text found least most
 wanted_of found form = form_text form
 
+-- that `expand` writes what is wanted, where it does
+abbrev pub hint_text : Bool → List ℕ
+hint_text true = codes " (dsa_run expand writes it)"
+hint_text false = []
+
+-- something else is found at the key of this name than what is wanted; `expand` writes the keys of steps alone
+abbrev pub unfit_text : List ℕ → Bool → Found → Form → List ℕ
+unfit_text name in_caps found wanted = named_text name in_caps ++ codes " is " ++ found_text found ++ codes ", "
+    ++ wanted_of found wanted ++ codes " is wanted" ++ hint_text (not in_caps && expands_found name found)
+
 -- what stands at a place of a text that is no JSON
 abbrev pub piece_text : Piece → List ℕ
-piece_text End = codes "the document ends here"
+piece_text End = codes "the end is here"
 piece_text LineBreak = codes "a line break stands here"
 piece_text Tab = codes "a tab stands here"
 piece_text Control = codes "a control character stands here"
@@ -103,7 +114,7 @@ wanted_text wanted.Colon = codes "a colon"
 wanted_text (wanted.More true) = codes "a comma or ]"
 wanted_text (wanted.More false) = codes "a comma or }"
 wanted_text (wanted.Closing is_array line column) = closing_text is_array line column
-wanted_text wanted.Nothing = codes "the end of the document"
+wanted_text wanted.Nothing = codes "the end"
 wanted_text wanted.Word = codes "true, false, null or a text in double quotes"
 wanted_text wanted.Digit = codes "a digit"
 wanted_text wanted.NoZero = codes "a number with no 0 before its other digits"
@@ -146,6 +157,11 @@ abbrev pub twice_text : Option (List ℕ) → List ℕ
 twice_text (Some key) = codes "\"" ++ (key ++ codes "\" comes twice")
 twice_text None = codes "a key that is long or not plain comes twice"
 
+-- of a text at `as`
+abbrev pub no_own_name_text : List ℕ
+no_own_name_text =
+    codes "\"as\" is no own name, 1 to 40 printable ASCII characters other than \" and \\ are wanted"
+
 -- how many digits a text has
 abbrev pub digits_text : ℕ → List ℕ
 digits_text count = count_text (codes " has ") count (codes "digit") (codes "digits")
@@ -154,13 +170,14 @@ abbrev pub reason_text : Reason → List ℕ
 reason_text (reason.Missing key) = key_text key ++ codes " is missing"
 reason_text (reason.Misspelled key found) =
     key_text key ++ (codes " is missing, and \"" ++ (string_bytes found ++ codes "\" is no key here"))
-reason_text (reason.Unfit key found wanted) =
-    key_text key ++ codes " is " ++ found_text found ++ codes ", " ++ wanted_of found wanted ++ codes " is wanted"
+reason_text (reason.Expandable key) = key_text key ++ (codes " is missing" ++ hint_text true)
+reason_text (reason.Unfit key found wanted) = unfit_text key.name.now key.in_caps found wanted
 reason_text (reason.OddDigits key count) =
     key_text key ++ digits_text count ++ codes ", an even number is wanted"
 reason_text (reason.ManyDigits key count) =
     key_text key ++ digits_text count ++ codes ", at most 128 are wanted"
 reason_text (reason.NoDigit key at) = key_text key ++ (codes " has no hexadecimal digit at character " ++ decimal at)
+reason_text reason.NoOwnName = no_own_name_text
 reason_text (reason.NoObject found) = found_text found ++ codes " stands here, an object is wanted"
 reason_text (reason.UnknownKind name near) = no_kind_text name near
 reason_text (reason.Stray found near) = stray_text (option_map string_bytes found) (option_map (λ name. name.now) near)

@@ -88,6 +88,7 @@ abbrev pub IsReasonOf : Key → Form → Option Data → Reason → Type 0
 IsReasonOf key wanted (Some d) r = r ≡ unfit_reason key wanted d
 IsReasonOf key wanted None (reason.Missing k) = k ≡ key
 IsReasonOf key wanted None (reason.Misspelled k found) = k ≡ key
+IsReasonOf key wanted None (reason.Expandable k) = k ≡ key
 IsReasonOf key wanted _ _ = ⊥
 
 -- the object has such a value at each key
@@ -190,6 +191,24 @@ stray_distance rows name key = if is_asked rows key then None else distance_of n
 abbrev pub near_key : Data → List Row → List ℕ → Option (List ℕ)
 near_key d rows name = nearest (stray_distance rows name) (keys_of d)
 
+-- ---- what `expand` writes (profile)
+
+-- the object calls a command by its name
+abbrev pub calls_command : Data → Bool
+calls_command d = is_some (text_of (codes "command") d)
+
+-- `expand` writes the key, where it is missing: the word of a command that is called by its name
+abbrev pub expands_missing : Data → List ℕ → Bool
+expands_missing d name = bytes_eq name (codes "word") && calls_command d
+
+-- `expand` writes what is wanted at the key of a step, where this is found: digits for a descriptor, a number for a
+-- list of queues or of engines, and a number for an own name
+abbrev pub expands_found : List ℕ → Found → Bool
+expands_found name found.Object = bytes_eq name (codes "desc")
+expands_found name found.Array = bytes_eq name (codes "queues") || bytes_eq name (codes "engines")
+expands_found name found.Text = bytes_eq name (codes "name")
+expands_found name _ = false
+
 -- ---- keys that are missing
 
 -- the key stands in the object, nobody asks for it, and it can be told as it stands
@@ -203,10 +222,12 @@ abbrev pub HasStrayKey : Data → List Row → Reason → Type 0
 HasStrayKey d rows (reason.Misspelled key found) = IsStrayKey d rows (string_bytes found)
 HasStrayKey d rows _ = ⊤
 
--- where the key is missing, the reason tells the nearest of the keys that nobody asks for, or that none is near
+-- where the key is missing, the reason tells the nearest of the keys that nobody asks for, or that none is near, and
+-- then whether `expand` writes the key
 abbrev pub TellsNearKey : Data → List Row → List ℕ → Reason → Type 0
 TellsNearKey d rows name (reason.Misspelled key found) = near_key d rows name ≡ Some (string_bytes found)
-TellsNearKey d rows name (reason.Missing key) = near_key d rows name ≡ None
+TellsNearKey d rows name (reason.Missing key) = (near_key d rows name ≡ None) × (expands_missing d name ≡ false)
+TellsNearKey d rows name (reason.Expandable key) = (near_key d rows name ≡ None) × (expands_missing d name ≡ true)
 TellsNearKey d rows name _ = ⊤
 
 -- the reason says what is wrong at the key of a row; the key is told as one of `caps` or not

@@ -45,10 +45,12 @@ said_of faults warnings = flat_map said_of_fault faults ++ flat_map said_of_warn
 abbrev pub name_of : Reason → Option (List ℕ)
 name_of (reason.Missing key) = Some key.name.now
 name_of (reason.Misspelled key found) = Some (string_bytes found)
+name_of (reason.Expandable key) = Some key.name.now
 name_of (reason.Unfit key found wanted) = Some key.name.now
 name_of (reason.OddDigits key count) = Some key.name.now
 name_of (reason.ManyDigits key count) = Some key.name.now
 name_of (reason.NoDigit key at) = Some key.name.now
+name_of reason.NoOwnName = Some (codes "as")
 name_of (reason.NoObject found) = None
 name_of (reason.UnknownKind found near) = Some (codes "do")
 name_of (reason.Stray found near) = option_map string_bytes found
@@ -61,6 +63,7 @@ name_of (reason.Syntax syntax) = None
 abbrev pub aim_of : Reason → Aim
 aim_of (reason.Missing key) = Whole
 aim_of (reason.Misspelled key found) = Key
+aim_of (reason.Expandable key) = Whole
 aim_of (reason.NoObject found) = Whole
 aim_of (reason.Stray found near) = Key
 aim_of (reason.Twice found) = Key
@@ -72,6 +75,7 @@ aim_of _ = Value
 abbrev pub is_of_caps : Reason → Bool
 is_of_caps (reason.Missing key) = key.in_caps
 is_of_caps (reason.Misspelled key found) = key.in_caps
+is_of_caps (reason.Expandable key) = key.in_caps
 is_of_caps (reason.Unfit key found wanted) = key.in_caps
 is_of_caps (reason.OddDigits key count) = key.in_caps
 is_of_caps (reason.ManyDigits key count) = key.in_caps

@@ -1,16 +1,19 @@
 -- What is odd in a document, and no fault of it: all of it, in order.
+use Rattle.dsa_scenario.specs.declared.actions.StepKind.TheVariants as kind
 use Rattle.dsa_scenario.specs.declared.fields.Form.TheVariants as form
 use Rattle.std.specs.Prelude.{◌≡◌, ℕ, suc, Bool, false, not, ◌&&◌, is_some, if◌then◌else◌, List, [], ◌∷◌, ◌++◌}
 use Rattle.std.specs.Prelude.{map, flat_map, filter, codes, bytes_eq, Option, Some, None, IsSomeAnd, IfSome, slice_get}
 use Rattle.std.specs.List.{AllByRecursion, list_any}
 use Rattle.serde_json.specs.{Data.{Data}, Find.{get}}
 use Rattle.dsa_scenario.specs.declared.faults.ScenarioFault.{ScenarioFault, TheVariants.{BadDocument, BadStep, BadCaps}}
-use Rattle.dsa_scenario.specs.{declared.actions.StepKind.{StepKind}, Fields.{Row}, Actions.{rows_of_kind, kind_of}}
-use Rattle.dsa_scenario.specs.Document.{IsJson, IsNoJson}
+use Rattle.dsa_scenario.specs.{declared.actions.StepKind.{StepKind}, Fields.{Row, text_of}}
+use Rattle.dsa_scenario.specs.{Actions.{rows_of_kind, kind_of}, Document.{IsJson, IsNoJson}}
+use Rattle.dsa_named.specs.Names.{own_text}
 use Rattle.dsa_check.specs.declared.finding.{Finding.{Finding}, Place.{Place}, Reason.{Reason}}
 use Rattle.dsa_check.specs.{Findings.{IsNowhere, IsOfOne, IsOfAny}, Judgement.{step_items_of}, Places.{BeginsOnLine}}
-use Rattle.dsa_check.specs.Lines.{named_text, found_text, wanted_of, stray_text, twice_text, reason_text}
+use Rattle.dsa_check.specs.Lines.{unfit_text, no_own_name_text, stray_text, twice_text, reason_text}
 use Rattle.dsa_check.specs.Reasons.{found_of, is_of_form, is_plain, distance_of, nearest, near_key, keys_of}
+use Rattle.dsa_check.specs.Reasons.{calls_command}
 use Rattle.dsa_check.specs.Repeats.{keys_written, caps_written, step_written, keys_again}
 use Rattle.dsa_check.specs.Tables.{document_rows, caps_rows}
 use Rattle.json.specs.Json.{Json, document}
@@ -27,6 +30,26 @@ remark_names = codes "note" ∷ []
 -- what a step may have beside the keys of its kind: the kind, what another device was seen to answer, and a remark
 abbrev pub step_names : List (List ℕ)
 step_names = codes "do" ∷ codes "answer" ∷ codes "zf" ∷ remark_names
+
+-- the own name that a step may give to its entry
+abbrev pub own_names : List (List ℕ)
+own_names = codes "as" ∷ []
+
+-- what says a command by its name
+abbrev pub command_keys : List (List ℕ)
+command_keys = codes "command" ∷ codes "operand" ∷ codes "queues" ∷ []
+
+-- a step has no word, and calls its command by its name
+abbrev pub has_no_word : Data → Bool
+has_no_word step = not (is_some (get (codes "word") step)) && calls_command step
+
+-- what a step of a kind may have for `expand`: an own name where it gives a name, and in place of a word what says it
+abbrev pub friendly_names : StepKind → Data → List (List ℕ)
+friendly_names kind.Enqcmd step = own_names
+friendly_names kind.Movdir step = own_names
+friendly_names kind.Fetch step = own_names
+friendly_names kind.Command step = if has_no_word step then command_keys else []
+friendly_names _ step = []
 
 abbrev pub is_named : List (List ℕ) → List ℕ → Bool
 is_named names key = list_any (λ name. bytes_eq name key) names
@@ -78,8 +101,7 @@ twice_texts there = map twice_key_text (keys_again there)
 
 -- it has another form than `conform` reads (profile)
 abbrev pub odd_text : Row → Data → List ℕ
-odd_text row d = named_text row.0 false ++ codes " is " ++ found_text (found_of d) ++ codes ", "
-    ++ wanted_of (found_of d) row.1 ++ codes " is wanted"
+odd_text row d = unfit_text row.0 false (found_of d) row.1
 
 abbrev pub odd_value : Row → Option Data → List (List ℕ)
 odd_value row None = []
@@ -94,6 +116,26 @@ answer_row = (codes "answer", form.Text)
 abbrev pub flag_row : Row
 flag_row = (codes "zf", form.Truth)
 
+-- ---- own names
+
+abbrev pub name_row : Row
+name_row = (codes "as", form.Text)
+
+-- a text stands where a step has its own name, and is none
+abbrev pub has_wrong_name : Data → Bool
+has_wrong_name step = is_some (text_of (codes "as") step) && not (is_some (own_text step))
+
+-- what stands there is no text, or a text that is no own name (profile)
+abbrev pub odd_name : Data → List (List ℕ)
+odd_name step = odd_at step name_row ++ (if has_wrong_name step then no_own_name_text ∷ [] else [])
+
+-- the same of a step of a kind that gives a name
+abbrev pub odd_name_of_kind : Data → Option StepKind → List (List ℕ)
+odd_name_of_kind step (Some kind.Enqcmd) = odd_name step
+odd_name_of_kind step (Some kind.Movdir) = odd_name step
+odd_name_of_kind step (Some kind.Fetch) = odd_name step
+odd_name_of_kind step _ = []
+
 -- ---- the warnings of each part
 
 -- a warning, by its part, the kind of the step, and what is odd there
@@ -106,12 +148,12 @@ warned_in part kind texts = map (λ text. (part, kind, text)) texts
 -- the keys of an object of a kind; of none nobody knows them
 abbrev pub stray_texts_of_kind : Data → Option StepKind → List (List ℕ)
 stray_texts_of_kind step None = []
-stray_texts_of_kind step (Some kind) = stray_texts step (rows_of_kind kind) step_names
+stray_texts_of_kind step (Some kind) = stray_texts step (rows_of_kind kind) (step_names ++ friendly_names kind step)
 
 -- what is odd in an item of the steps, which has these keys in the text
 abbrev pub step_texts : List (List ℕ) → Data → List (List ℕ)
-step_texts there step =
-    odd_at step answer_row ++ odd_at step flag_row ++ stray_texts_of_kind step (kind_of step) ++ twice_texts there
+step_texts there step = odd_at step answer_row ++ odd_at step flag_row ++ odd_name_of_kind step (kind_of step)
+    ++ stray_texts_of_kind step (kind_of step) ++ twice_texts there
 
 abbrev pub warnings_of_step : Option Json → ℕ → Data → List Warned
 warnings_of_step written i step =

@@ -2,7 +2,7 @@
 
 ghost use Rattle.std.specs.Prelude.{◌≡◌, ◌++◌, true};
 ghost use Rattle.dsa_check.specs.Judgement.{faults_told};
-ghost use Rattle.dsa_check.specs.Check.{IsCheckReportOf, first_of, faults_warned};
+ghost use Rattle.dsa_check.specs.Check.{IsCheckReportOf, first_of, faults_warned, too_long_text};
 
 use crate::finding::{Finding, Judgement};
 use crate::judge::judge_document;
@@ -28,6 +28,20 @@ pub struct Check {
     /// Whether a warning counts as a fault of its part.
     pub is_strict: bool,
     pub form: CheckForm,
+}
+
+/// The report on a document that is too long, of which nothing else is checked.
+#[tactic(auto, unfolding(json::specs::Print::print_from, json::specs::Print::escape_byte))]
+pub fn too_long_report(form: CheckForm) -> &'static str
+    ensures { result.now ≡ too_long_text form }
+{
+    match form {
+        CheckForm::Json => {
+            "{\"part\":\"text\",\"level\":\"fault\",\
+            \"reason\":\"it has more than 1048576 bytes\"}\n"
+        }
+        _ => "document too long: it has more than 1048576 bytes\n",
+    }
 }
 
 fn first_fault(findings: &[Finding]) -> Option<ScenarioFault>

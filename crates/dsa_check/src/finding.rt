@@ -54,6 +54,10 @@ pub enum Reason {
         key: Key,
         found: String,
     },
+    /// The key is missing, and `expand` writes it.
+    Expandable {
+        key: Key,
+    },
     /// What stands at the key is of another form.
     Unfit {
         key: Key,
@@ -76,6 +80,8 @@ pub enum Reason {
         key: Key,
         at: usize,
     },
+    /// The text `as` is no own name.
+    NoOwnName,
     /// It is no object.
     NoObject {
         found: Found,
@@ -120,6 +126,7 @@ impl Reason {
     {
         match self {
             Reason::Missing { .. }
+            | Reason::Expandable { .. }
             | Reason::NoObject { .. }
             | Reason::NotUtf8
             | Reason::Syntax(_) => Aim::Whole,
@@ -134,6 +141,7 @@ impl Reason {
     {
         match self {
             Reason::Missing { key }
+            | Reason::Expandable { key }
             | Reason::Unfit { key, .. }
             | Reason::OddDigits { key, .. }
             | Reason::ManyDigits { key, .. }
@@ -141,6 +149,7 @@ impl Reason {
             Reason::Misspelled { found, .. } => Some(found.as_str()),
             Reason::Stray { found, .. } | Reason::Twice { found } => found.as_deref(),
             Reason::UnknownKind { .. } => Some("do"),
+            Reason::NoOwnName => Some("as"),
             Reason::NoObject { .. } | Reason::NotUtf8 | Reason::Syntax(_) => None,
         }
     }
@@ -152,6 +161,7 @@ impl Reason {
         match self {
             Reason::Missing { key }
             | Reason::Misspelled { key, .. }
+            | Reason::Expandable { key }
             | Reason::Unfit { key, .. }
             | Reason::OddDigits { key, .. }
             | Reason::ManyDigits { key, .. }

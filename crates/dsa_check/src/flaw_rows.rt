@@ -18,6 +18,7 @@ ghost use Rattle.dsa_check.specs.Flaws.{name_of_sign, name_of_long, IsToldAs, Is
 ghost use Rattle.dsa_check.specs.Flaws.{example_of, IsWantedAfter, takes_text, end_of, GoesOnFrom};
 ghost use Rattle.dsa_check.specs.Flaws.{IsOpenFrom, HasSignAt, IsBegunAt, openings_in, IsClosing};
 ghost use Rattle.dsa_check.specs.Flaws.{EndWithComma, IsSyntaxAt};
+ghost use Rattle.dsa_check.specs.OneLine.{flaw_text, IsFlawText};
 ghost use Rattle.dsa_check.specs.{Places.{IsFoundBetween, IsToldWhereFound, extent_at}, Worked.{all_wanted}};
 
 /// What is told of bytes by the first of them, and how what is wanted may begin.
@@ -176,6 +177,19 @@ pub fn wrong_texts()
         → finding.place.column ≡ Some 3
         → IsInText (codes "1") finding
         → ⊥ }
+{}
+
+/// What is told of one line that is no JSON.
+#[tactic(auto, unfolding(dsa_scenario::specs::Worked::digits_on_literals))]
+pub fn flaws_of_lines()
+    ensures text { flaw_text 18 (Some NotUtf8) ≡ codes "column 18: the bytes are no UTF-8" }
+    ensures unknown { flaw_text 1 None ≡ codes "column 1: not understood" }
+    ensures unclosed { IsFlawText (codes "{")
+        (codes "column 2: the end is here, a key in double quotes or } is wanted") }
+    ensures empty { IsFlawText [] (codes "column 1: the end is here, an object is wanted") }
+    ensures bytes { (text : List ℕ)
+        → IsFlawText (255 ∷ []) text
+        → text ≡ codes "column 1: the bytes are no UTF-8" }
 {}
 
 /// Where a step is found, and the line that is told then.

@@ -62,9 +62,9 @@ fn begun_at(alloc: Global, bytes: &[u8], at: usize) -> Result<Spot, AllocError>
     }
 }
 
-// The first place where the bytes are no JSON, and what is wrong there. It is told only where all
-// before it is right.
-fn flaw_of(alloc: Global, bytes: &[u8]) -> Result<(Spot, Vec<Reason>), AllocError>
+/// The first place where the bytes are no JSON, and what is wrong there. It is told only where all
+/// before it is right.
+pub fn flaw_of(alloc: Global, bytes: &[u8]) -> Result<(Spot, Vec<Reason>), AllocError>
     ensures spot { IfOk result (λ flaw. IsSpot bytes.now flaw.0) }
     ensures told { IfOk result
         (λ flaw. AllByRecursion (IsWrongAt bytes.now flaw.0.at) flaw.1.items) }

@@ -3,10 +3,11 @@
 ghost use Rattle.std.specs.Prelude.{◌≡◌, ◌%◌, ℕ, [], ◌∷◌, Option, Some, None, codes, map, true};
 ghost use Rattle.std.specs.Prelude.{false, String, string_bytes};
 ghost use Rattle.std.specs.declared.alloc.Global.{Global};
-ghost use Rattle.serde_json.specs.Data.{null, array, no_items};
+ghost use Rattle.serde_json.specs.Data.{null, string, array, no_items};
 ghost use Rattle.dsa_scenario.specs.Worked.{object_of, step_of_kind};
 ghost use Rattle.dsa_check.specs.declared.fields.Key.{Key};
-ghost use Rattle.dsa_check.specs.declared.finding.Reason.TheVariants.{Missing, Misspelled, UnknownKind, NotUtf8};
+ghost use Rattle.dsa_check.specs.declared.finding.Reason.TheVariants.{Missing, Misspelled, Expandable};
+ghost use Rattle.dsa_check.specs.declared.finding.Reason.TheVariants.{UnknownKind, NotUtf8};
 ghost use Rattle.dsa_scenario.specs.declared.actions.StepKind.{StepKind};
 ghost use Rattle.dsa_scenario.specs.declared.actions.StepKind.TheVariants.{Enqcmd, Movdir, Fetch};
 ghost use Rattle.dsa_scenario.specs.declared.actions.StepKind.TheVariants.{Start, Finish, Command};
@@ -135,6 +136,17 @@ pub fn near_keys_that_are_told()
     ensures none_near { (key : Key)
         → TellsNearKey (object_of ((codes "size", null) ∷ [])) (rows_of_kind Command)
         (codes "word") (Missing key) }
+    ensures expandable { (key : Key)
+        → TellsNearKey (object_of ((codes "command", string []) ∷ [])) (rows_of_kind Command)
+        (codes "word") (Expandable key) }
+    ensures no_word { (key : Key)
+        → TellsNearKey (object_of ((codes "command", string []) ∷ [])) (rows_of_kind Command)
+        (codes "word") (Missing key)
+        → ⊥ }
+    ensures no_call { (key : Key)
+        → TellsNearKey (object_of ((codes "command", null) ∷ [])) (rows_of_kind Command)
+        (codes "word") (Expandable key)
+        → ⊥ }
     ensures other_reason { TellsNearKey (object_of ((codes "wrd", null) ∷ []))
         (rows_of_kind Command) (codes "word") NotUtf8 }
 {}

@@ -1,7 +1,7 @@
 //! Worked reasons of one object: what the definitions say at chosen values, by computation.
 
 ghost use Rattle.std.specs.Prelude.{◌≡◌, ℕ, List, [], ◌∷◌, codes};
-ghost use Rattle.serde_json.specs.Data.{null};
+ghost use Rattle.serde_json.specs.Data.{null, string};
 ghost use Rattle.dsa_scenario.specs.declared.fields.Form.TheVariants as form;
 ghost use Rattle.dsa_scenario.specs.Worked.{object_of, poll_step, step_of_kind, whole};
 ghost use Rattle.dsa_check.specs.OneStep.{AreStepTexts, AreKeyTexts, joined_text};
@@ -19,6 +19,9 @@ pub fn texts_of_steps()
     ensures both { AreStepTexts
         (object_of ((codes "zf", null) ∷ step_of_kind (codes "command") []))
         (codes "\"word\" is missing" ∷ codes "\"zf\" is null, true or false is wanted" ∷ []) }
+    ensures called { AreStepTexts
+        (object_of ((codes "command", string (codes "poll")) ∷ step_of_kind (codes "command") []))
+        (codes "\"word\" is missing (dsa_run expand writes it)" ∷ []) }
     ensures untold { AreStepTexts null [] → ⊥ }
     ensures unfounded { (text : List ℕ) → AreStepTexts (object_of poll_step) (text ∷ []) → ⊥ }
 {}

@@ -14,6 +14,7 @@ ghost use Rattle.dsa_check.specs.Tables.{device_rows, history_rows};
 
 use crate::fields::{Key, found_in, is_of};
 use crate::finding::Reason;
+use crate::friendly::expands_missing;
 use crate::near::{near_key, near_kind};
 use crate::syntax::is_plain;
 use crate::tables::{CAPS, DEVICE_CAPS, DOCUMENT, HISTORY_CAPACITY};
@@ -85,6 +86,7 @@ fn field_reason(
         Some(value) => Ok(Some(unfit_reason(key, field.form, value))),
         None => match near_key(alloc, object, fields, name)? {
             Some(found) => Ok(Some(Reason::Misspelled { key, found })),
+            None if expands_missing(object, name) => Ok(Some(Reason::Expandable { key })),
             None => Ok(Some(Reason::Missing { key })),
         },
     }

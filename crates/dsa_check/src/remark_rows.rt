@@ -13,9 +13,10 @@ ghost use Rattle.dsa_scenario.specs.Worked.{whole, object_of, some_caps, poll_st
 ghost use Rattle.dsa_check.specs.declared.fields.Found.TheVariants as found;
 ghost use Rattle.dsa_check.specs.declared.finding.Aim.TheVariants as aim;
 ghost use Rattle.dsa_check.specs.declared.finding.Finding.{Finding};
-ghost use Rattle.dsa_check.specs.declared.finding.Reason.TheVariants.{Missing, Misspelled, Unfit};
+ghost use Rattle.dsa_check.specs.declared.finding.Reason.TheVariants.{Missing, Expandable};
+ghost use Rattle.dsa_check.specs.declared.finding.Reason.TheVariants.{Misspelled, Unfit};
 ghost use Rattle.dsa_check.specs.declared.finding.Reason.TheVariants.{OddDigits, ManyDigits};
-ghost use Rattle.dsa_check.specs.declared.finding.Reason.TheVariants.{NoDigit, NoObject};
+ghost use Rattle.dsa_check.specs.declared.finding.Reason.TheVariants.{NoDigit, NoObject, NoOwnName};
 ghost use Rattle.dsa_check.specs.declared.finding.Reason.TheVariants.{UnknownKind, Stray, Twice};
 ghost use Rattle.dsa_check.specs.declared.finding.Reason.TheVariants.{NotUtf8, Syntax};
 ghost use Rattle.dsa_check.specs.declared.syntax.Syntax.TheVariants.{Comment};
@@ -37,33 +38,35 @@ ghost use Rattle.dsa_check.specs.declared.finding.Reason.{Reason};
 pub fn aims_of_reasons()
     ensures aims { (text : String Global)
         → map aim_of
-        (Missing key_of_caps ∷ Misspelled key_of_caps text
+        (Missing key_of_caps ∷ Expandable key_of_caps ∷ Misspelled key_of_caps text
         ∷ Unfit key_of_caps found.Null form.Text ∷ OddDigits key_of_caps 3
-        ∷ ManyDigits key_of_caps 130 ∷ NoDigit key_of_caps 1 ∷ NoObject found.Null
+        ∷ ManyDigits key_of_caps 130 ∷ NoDigit key_of_caps 1 ∷ NoOwnName ∷ NoObject found.Null
         ∷ UnknownKind None None ∷ Stray (Some text) None ∷ Twice None ∷ NotUtf8
         ∷ Syntax Comment ∷ [])
-        ≡ aim.Whole ∷ aim.Key ∷ aim.Value ∷ aim.Value ∷ aim.Value ∷ aim.Value ∷ aim.Whole
-        ∷ aim.Value ∷ aim.Key ∷ aim.Key ∷ aim.Whole ∷ aim.Whole ∷ [] }
+        ≡ aim.Whole ∷ aim.Whole ∷ aim.Key ∷ aim.Value ∷ aim.Value ∷ aim.Value ∷ aim.Value
+        ∷ aim.Value ∷ aim.Whole ∷ aim.Value ∷ aim.Key ∷ aim.Key ∷ aim.Whole ∷ aim.Whole ∷ [] }
     ensures names { (text : String Global)
         → map name_of
-        (Missing key_of_caps ∷ Misspelled key_of_caps text
+        (Missing key_of_caps ∷ Expandable key_of_caps ∷ Misspelled key_of_caps text
         ∷ Unfit key_of_caps found.Null form.Text ∷ OddDigits key_of_caps 3
-        ∷ ManyDigits key_of_caps 130 ∷ NoDigit key_of_caps 1 ∷ NoObject found.Null
+        ∷ ManyDigits key_of_caps 130 ∷ NoDigit key_of_caps 1 ∷ NoOwnName ∷ NoObject found.Null
         ∷ UnknownKind None None ∷ Stray (Some text) None ∷ Twice (Some text) ∷ Twice None
         ∷ NotUtf8 ∷ Syntax Comment ∷ [])
-        ≡ Some (codes "slots") ∷ Some (string_bytes text) ∷ Some (codes "slots")
-        ∷ Some (codes "slots") ∷ Some (codes "slots") ∷ Some (codes "slots") ∷ None
+        ≡ Some (codes "slots") ∷ Some (codes "slots") ∷ Some (string_bytes text)
+        ∷ Some (codes "slots")
+        ∷ Some (codes "slots") ∷ Some (codes "slots") ∷ Some (codes "slots")
+        ∷ Some (codes "as") ∷ None
         ∷ Some (codes "do") ∷ Some (string_bytes text) ∷ Some (string_bytes text) ∷ None ∷ None
         ∷ None ∷ [] }
     ensures caps { (text : String Global)
         → map is_of_caps
-        (Missing key_of_caps ∷ Misspelled key_of_caps text
+        (Missing key_of_caps ∷ Expandable key_of_caps ∷ Misspelled key_of_caps text
         ∷ Unfit key_of_caps found.Null form.Text ∷ OddDigits key_of_caps 3
         ∷ ManyDigits key_of_caps 130 ∷ NoDigit key_of_caps 1 ∷ Missing key_of_a_step
-        ∷ NoObject found.Null ∷ UnknownKind None None ∷ Stray None None ∷ Twice None ∷ NotUtf8
-        ∷ Syntax Comment ∷ [])
-        ≡ true ∷ true ∷ true ∷ true ∷ true ∷ true ∷ false ∷ false ∷ false ∷ false ∷ false
-        ∷ false ∷ false ∷ [] }
+        ∷ NoOwnName ∷ NoObject found.Null ∷ UnknownKind None None ∷ Stray None None
+        ∷ Twice None ∷ NotUtf8 ∷ Syntax Comment ∷ [])
+        ≡ true ∷ true ∷ true ∷ true ∷ true ∷ true ∷ true ∷ false ∷ false ∷ false ∷ false ∷ false
+        ∷ false ∷ false ∷ false ∷ [] }
 {}
 
 /// The values of the parts of a document, and what is said of findings.

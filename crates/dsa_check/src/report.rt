@@ -1,11 +1,13 @@
 //! The lines that are told of the faults of a document.
 
-ghost use Rattle.std.specs.Prelude.{◌≡◌, ◌++◌, Some, IfOk, codes, decimal, string_bytes, option_map};
+ghost use Rattle.std.specs.Prelude.{◌≡◌, ◌++◌, true, Some, IfOk, codes, decimal, string_bytes, option_map};
 ghost use Rattle.dsa_event_text.specs.Added.{Adds};
 ghost use Rattle.dsa_check.specs.Lines.{digits_text, key_text, whole_range_text, form_text};
-ghost use Rattle.dsa_check.specs.Lines.{found_text, bound_text, wanted_of, piece_text};
+ghost use Rattle.dsa_check.specs.Lines.{found_text, bound_text, wanted_of, hint_text, unfit_text};
+ghost use Rattle.dsa_check.specs.Lines.{piece_text};
 ghost use Rattle.dsa_check.specs.Lines.{begun_text, closing_text, wanted_text, syntax_text, near_kind_text};
 ghost use Rattle.dsa_check.specs.Lines.{no_kind_text, stray_text, twice_text, reason_text};
+ghost use Rattle.dsa_check.specs.Lines.{no_own_name_text};
 ghost use Rattle.dsa_check.specs.Lines.{known_number_text, step_text, fault_part_text, own_place_text};
 ghost use Rattle.dsa_check.specs.Lines.{after_place, spot_text, warning_mark, known_text};
 ghost use Rattle.dsa_check.specs.Lines.{remark_text};
@@ -14,6 +16,7 @@ ghost use Rattle.dsa_check.specs.{Check.{text_in, report_text}, Sources.{source_
 use crate::checking::CheckForm;
 use crate::fields::{Found, Key};
 use crate::finding::{Finding, Reason};
+use crate::friendly::expands_found;
 use crate::objects::add_object;
 use crate::places::Spot;
 use crate::remarks::Remark;
@@ -89,17 +92,34 @@ fn add_wanted(text: &mut String, found: Found, form: Form) -> Added
     }
 }
 
+// That `expand` writes what is wanted, where it does.
+fn add_hint(text: &mut String, is_written: bool) -> Added
+    ensures { Adds result text.old text.new (hint_text is_written) }
+{
+    if is_written {
+        text.push_str(" (dsa_run expand writes it)")
+    } else {
+        Ok(())
+    }
+}
+
 fn add_unfit(text: &mut String, key: Key, found: Found, wanted: Form) -> Added
-    ensures { Adds result text.old text.new
-        (key_text key ++ codes " is " ++ found_text found ++ codes ", " ++ wanted_of found wanted
-        ++ codes " is wanted") }
+    ensures { Adds result text.old text.new (unfit_text key.name.now key.in_caps found wanted) }
 {
     add_key(text, key)?;
     text.push_str(" is ")?;
     add_found(text, found)?;
     text.push_str(", ")?;
     add_wanted(text, found, wanted)?;
-    text.push_str(" is wanted")
+    text.push_str(" is wanted")?;
+    add_hint(text, !key.in_caps && expands_found(key.name, found))
+}
+
+fn add_expandable(text: &mut String, key: Key) -> Added
+    ensures { Adds result text.old text.new
+        (key_text key ++ (codes " is missing" ++ hint_text true)) }
+{
+    add_at_key(text, key, " is missing (dsa_run expand writes it)")
 }
 
 #[tactic(auto, using(std::proofs::lemmas::Grind::elements))]
@@ -107,7 +127,7 @@ fn add_piece(text: &mut String, piece: &Piece) -> Added
     ensures { Adds result text.old text.new (piece_text piece.now) }
 {
     match piece {
-        Piece::End => text.push_str("the document ends here"),
+        Piece::End => text.push_str("the end is here"),
         Piece::LineBreak => text.push_str("a line break stands here"),
         Piece::Tab => text.push_str("a tab stands here"),
         Piece::Control => text.push_str("a control character stands here"),
@@ -156,7 +176,7 @@ fn add_syntax_wanted(text: &mut String, wanted: Wanted) -> Added
             line,
             column,
         } => add_closing(text, is_array, line, column),
-        Wanted::Nothing => text.push_str("the end of the document"),
+        Wanted::Nothing => text.push_str("the end"),
         Wanted::Word => text.push_str("true, false, null or a text in double quotes"),
         Wanted::Digit => text.push_str("a digit"),
         Wanted::NoZero => text.push_str("a number with no 0 before its other digits"),
@@ -238,6 +258,15 @@ fn add_no_digit(text: &mut String, key: Key, at: usize) -> Added
     write!(text, " has no hexadecimal digit at character {at}")
 }
 
+fn add_no_own_name(text: &mut String) -> Added
+    ensures { Adds result text.old text.new no_own_name_text }
+{
+    text.push_str(
+        "\"as\" is no own name, \
+        1 to 40 printable ASCII characters other than \" and \\ are wanted",
+    )
+}
+
 fn add_misspelled(text: &mut String, key: Key, found: &str) -> Added
     ensures { Adds result text.old text.new
         (key_text key ++ (codes " is missing, and \"" ++ (found.now
@@ -288,6 +317,7 @@ pub fn add_reason(text: &mut String, reason: &Reason) -> Added
     match reason {
         Reason::Missing { key } => add_at_key(text, *key, " is missing"),
         Reason::Misspelled { key, found } => add_misspelled(text, *key, found.as_str()),
+        Reason::Expandable { key } => add_expandable(text, *key),
         Reason::Unfit { key, found, wanted } => add_unfit(text, *key, *found, *wanted),
         Reason::OddDigits { key, count } => add_digits(
             text,
@@ -302,6 +332,7 @@ pub fn add_reason(text: &mut String, reason: &Reason) -> Added
             ", at most 128 are wanted",
         ),
         Reason::NoDigit { key, at } => add_no_digit(text, *key, *at),
+        Reason::NoOwnName => add_no_own_name(text),
         Reason::NoObject { found } => add_no_object(text, *found),
         Reason::UnknownKind { found, near } => add_kind(text, found, *near),
         Reason::Stray { found, near } => add_stray(text, found, *near),

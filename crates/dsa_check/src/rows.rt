@@ -33,7 +33,8 @@ ghost use Rattle.dsa_check.specs.Findings.{TellsWhy, Appends, AppendsAll};
 ghost use Rattle.dsa_check.specs.Judgement.{capacity_at, faults_of_value, fault_of_head};
 ghost use Rattle.dsa_check.specs.Judgement.{fault_of_step, caps_faults, capacity_faults};
 ghost use Rattle.dsa_check.specs.Judgement.{AreFaultsOf, IsRight};
-ghost use Rattle.dsa_check.specs.Check.{IsCheckReportOf};
+ghost use Rattle.dsa_check.specs.declared.checking.CheckForm.TheVariants.{Lines, Json, Source};
+ghost use Rattle.dsa_check.specs.Check.{IsCheckReportOf, too_long_text};
 ghost use Rattle.dsa_check.specs.Lines.{key_text, form_text, found_text, wanted_of, piece_text};
 ghost use Rattle.dsa_check.specs.Lines.{wanted_text, syntax_text, no_kind_text, reason_text};
 ghost use Rattle.dsa_check.specs.Lines.{fault_part_text, own_place_text, spot_text, said_text};
@@ -291,7 +292,7 @@ pub fn texts_of_values()
 pub fn texts_of_places()
     ensures pieces { map piece_text
         (End ∷ LineBreak ∷ Tab ∷ Control ∷ Character ∷ ByteOrderMark ∷ Text ∷ Number ∷ Word ∷ [])
-        ≡ codes "the document ends here" ∷ codes "a line break stands here"
+        ≡ codes "the end is here" ∷ codes "a line break stands here"
         ∷ codes "a tab stands here" ∷ codes "a control character stands here"
         ∷ codes "a character beyond ASCII stands here" ∷ codes "a byte order mark stands here"
         ∷ codes "a text stands here" ∷ codes "a number stands here" ∷ codes "a word stands here"
@@ -305,7 +306,7 @@ pub fn texts_of_places()
         ≡ codes "an object" ∷ codes "a value" ∷ codes "a value" ∷ codes "a value or ]"
         ∷ codes "a key in double quotes or }" ∷ codes "a key in double quotes" ∷ codes "a colon"
         ∷ codes "a comma or ]" ∷ codes "a comma or }" ∷ codes "a ] for the [ of line 2, column 13"
-        ∷ codes "a } for the { of line 4, column 15" ∷ codes "the end of the document"
+        ∷ codes "a } for the { of line 4, column 15" ∷ codes "the end"
         ∷ codes "true, false, null or a text in double quotes" ∷ [] }
     ensures numbers_and_texts { map wanted_text
         (wanted.Digit ∷ wanted.NoZero ∷ wanted.InRange ∷ wanted.DoubleQuote ∷ wanted.Quote 6 17
@@ -354,6 +355,16 @@ pub fn texts_of_reasons()
         → no_kind_text (Some text) None
         ≡ codes "\"do\" is \""
         ++ (string_bytes text ++ (codes "\", none of " ++ names_text kinds)) }
+{}
+
+/// The report on a document that is too long.
+#[tactic(auto, unfolding(json::specs::Print::print_from, json::specs::Print::escape_byte))]
+pub fn texts_of_long_documents()
+    ensures lines { map too_long_text (Lines ∷ Source false ∷ Source true ∷ [])
+        ≡ replicate 3 (codes "document too long: it has more than 1048576 bytes\n") }
+    ensures json { too_long_text Json
+        ≡ codes "{\"part\":\"text\",\"level\":\"fault\","
+        ++ codes "\"reason\":\"it has more than 1048576 bytes\"}\n" }
 {}
 
 /// Where a fault is, in words, and its line.

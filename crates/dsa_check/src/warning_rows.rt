@@ -1,23 +1,29 @@
 //! Worked warnings: what the definitions find odd at chosen values, by computation.
 
-ghost use Rattle.std.specs.Prelude.{◌≡◌, List, [], ◌∷◌, true, false, Some, None, codes, map, replicate};
+ghost use Rattle.std.specs.Prelude.{◌≡◌, List, [], ◌∷◌, ◌++◌, true, false, Some, None, codes, map};
+ghost use Rattle.std.specs.Prelude.{replicate};
 ghost use Rattle.std.specs.declared.{alloc.Global.{Global}, vec.Vec.{Vec}};
 ghost use Rattle.serde_json.specs.Data.{null, boolean, string, array, no_items, item};
 ghost use Rattle.dsa_scenario.specs.declared.faults.ScenarioFault.TheVariants.{BadDocument, BadStep, BadCaps};
 ghost use Rattle.dsa_scenario.specs.declared.fields.Form.TheVariants as form;
-ghost use Rattle.dsa_scenario.specs.declared.actions.StepKind.TheVariants.{Clear, Movdir, Poll};
+ghost use Rattle.dsa_scenario.specs.declared.actions.StepKind.TheVariants.{Clear, Command, Enqcmd, Fetch};
+ghost use Rattle.dsa_scenario.specs.declared.actions.StepKind.TheVariants.{Movdir, Poll};
 ghost use Rattle.dsa_scenario.specs.Actions.{rows_of_kind};
 ghost use Rattle.dsa_scenario.specs.Worked.{whole, object_of, fields_without, changed, some_caps};
-ghost use Rattle.dsa_scenario.specs.Worked.{poll_step, clear_step, movdir_step};
+ghost use Rattle.dsa_scenario.specs.Worked.{poll_step, clear_step, movdir_step, command_step};
+ghost use Rattle.dsa_scenario.specs.Worked.{step_of_kind};
 ghost use Rattle.dsa_check.specs.declared.finding.{Finding.{Finding}, Reason.{Reason}};
-ghost use Rattle.dsa_check.specs.declared.finding.Reason.TheVariants.{NotUtf8};
+ghost use Rattle.dsa_check.specs.declared.finding.Reason.TheVariants.{NoOwnName, NotUtf8};
 ghost use Rattle.dsa_check.specs.Check.{first_of, faults_warned};
 ghost use Rattle.dsa_check.specs.Findings.{IsNowhere};
 ghost use Rattle.json.specs.Json as json;
-ghost use Rattle.dsa_check.specs.Lines.{stray_text, twice_text, said_text};
+ghost use Rattle.dsa_check.specs.Lines.{no_own_name_text, reason_text, stray_text, twice_text};
+ghost use Rattle.dsa_check.specs.Lines.{said_text};
 ghost use Rattle.dsa_check.specs.Repeats.{keys_written, how_often, keys_again};
 ghost use Rattle.dsa_check.specs.Tables.{document_rows};
 ghost use Rattle.dsa_check.specs.Warnings.{names_of, remark_names, step_names, is_named, list_of};
+ghost use Rattle.dsa_check.specs.Warnings.{friendly_names, has_no_word, odd_name};
+ghost use Rattle.dsa_check.specs.Warnings.{odd_name_of_kind};
 ghost use Rattle.dsa_check.specs.Warnings.{told_keys, is_stray, plain_key, near_name, stray_texts};
 ghost use Rattle.dsa_check.specs.Warnings.{step_texts, object_texts, caps_warnings};
 ghost use Rattle.dsa_check.specs.Warnings.{warnings_of_value, warned_in};
@@ -86,8 +92,50 @@ pub fn oddities_of_steps()
         ≡ [] }
     ensures untold { step_texts [] (object_of ((codes "limitd", null) ∷ movdir_step))
         ≡ codes "\"limitd\" is no key here, but \"limited\" is" ∷ [] }
+    ensures own_name { step_texts [] (object_of ((codes "as", string (codes "x")) ∷ movdir_step))
+        ≡ [] }
+    ensures no_name { step_texts [] (object_of ((codes "as", null) ∷ poll_step))
+        ≡ codes "\"as\" is no key here" ∷ [] }
+    ensures called { step_texts []
+        (object_of ((codes "command", string []) ∷ (codes "operand", null)
+        ∷ (codes "queues", null) ∷ step_of_kind (codes "command") []))
+        ≡ [] }
+    ensures called_with_a_word { step_texts []
+        (object_of ((codes "command", string []) ∷ command_step))
+        ≡ codes "\"command\" is no key here" ∷ [] }
+    ensures called_by_no_text { step_texts []
+        (object_of ((codes "command", null) ∷ step_of_kind (codes "command") []))
+        ≡ codes "\"command\" is no key here" ∷ [] }
     ensures seen { step_texts [] (object_of ((codes "answr", null) ∷ poll_step))
         ≡ codes "\"answr\" is no key here, but \"answer\" is" ∷ [] }
+{}
+
+/// What is odd where a step has its own name: no text, or a text that is none. It comes behind what
+/// another device was seen to answer.
+#[tactic(auto, unfolding(crate::specs::Worked::near_on_literals, dsa_scenario::specs::Worked::digits_on_literals))]
+pub fn own_names_of_steps()
+    ensures right { map (λ text. odd_name (object_of ((codes "as", string text) ∷ [])))
+        (codes "x" ∷ codes " ~" ∷ replicate 40 65 ∷ [])
+        ≡ [] ∷ [] ∷ [] ∷ [] }
+    ensures wrong { map (λ text. odd_name (object_of ((codes "as", string text) ∷ [])))
+        ([] ∷ replicate 41 65 ∷ codes "a\"" ∷ codes "\\" ∷ codes "\n" ∷ replicate 1 127 ∷ [])
+        ≡ replicate 6 (no_own_name_text ∷ []) }
+    ensures no_text { map (λ value. odd_name (object_of ((codes "as", value) ∷ [])))
+        (whole 5 ∷ null ∷ array no_items ∷ [])
+        ≡ (codes "\"as\" is 5, a text is wanted" ∷ [])
+        ∷ (codes "\"as\" is null, a text is wanted" ∷ [])
+        ∷ (codes "\"as\" is an array, a text is wanted" ∷ []) ∷ [] }
+    ensures none { odd_name (object_of []) ≡ [] }
+    ensures kinds { map (odd_name_of_kind (object_of ((codes "as", string []) ∷ [])))
+        (Some Enqcmd ∷ Some Movdir ∷ Some Fetch ∷ Some Command ∷ Some Poll ∷ None ∷ [])
+        ≡ replicate 3 (no_own_name_text ∷ []) ++ replicate 3 [] }
+    ensures order { step_texts []
+        (object_of ((codes "b", null) ∷ (codes "as", string []) ∷ (codes "zf", null) ∷ movdir_step))
+        ≡ codes "\"zf\" is null, true or false is wanted" ∷ no_own_name_text
+        ∷ codes "\"b\" is no key here" ∷ [] }
+    ensures text { reason_text NoOwnName
+        ≡ codes "\"as\" is no own name, "
+        ++ codes "1 to 40 printable ASCII characters other than \" and \\ are wanted" }
 {}
 
 /// Keys that are known, that a fault tells, and that nothing reads.
@@ -98,6 +146,15 @@ pub fn keys_that_nothing_reads()
     ensures remarks { remark_names ≡ codes "note" ∷ [] }
     ensures of_steps { step_names
         ≡ codes "do" ∷ codes "answer" ∷ codes "zf" ∷ codes "note" ∷ [] }
+    ensures friendly { map (λ kind. friendly_names kind (object_of []))
+        (Enqcmd ∷ Movdir ∷ Fetch ∷ Command ∷ Poll ∷ [])
+        ≡ (codes "as" ∷ []) ∷ (codes "as" ∷ []) ∷ (codes "as" ∷ []) ∷ [] ∷ [] ∷ [] }
+    ensures of_a_command { friendly_names Command (object_of ((codes "command", string []) ∷ []))
+        ≡ codes "command" ∷ codes "operand" ∷ codes "queues" ∷ [] }
+    ensures no_word { map has_no_word
+        (object_of ((codes "command", string []) ∷ []) ∷ object_of ((codes "command", null) ∷ [])
+        ∷ object_of ((codes "command", string []) ∷ (codes "word", null) ∷ []) ∷ object_of [] ∷ [])
+        ≡ true ∷ false ∷ false ∷ false ∷ [] }
     ensures named { map (is_named step_names) (codes "zf" ∷ codes "ZF" ∷ codes "z" ∷ [])
         ≡ true ∷ false ∷ false ∷ [] }
     ensures listed { map (λ key. list_of key) (Some (codes "do") ∷ None ∷ [])

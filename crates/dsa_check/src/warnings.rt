@@ -1,7 +1,7 @@
 //! What is odd in a document, and no fault of it.
 
 ghost use Rattle.std.specs.Prelude.{◌≡◌, ◌++◌, ◌&&◌, ◌||◌, ◌∷◌, if◌then◌else◌, not, bytes_eq, ℕ};
-ghost use Rattle.std.specs.Prelude.{List, [], map, codes, string_bytes, option_map, None, IfOk};
+ghost use Rattle.std.specs.Prelude.{List, [], map, codes, string_bytes, option_map, Some, None, IfOk};
 ghost use Rattle.std.specs.Prelude.{OnOk};
 ghost use Rattle.std.specs.List.{All, AllByRecursion};
 ghost use Rattle.serde_json.specs.{View.{view}, Find.{get}};
@@ -14,18 +14,22 @@ ghost use Rattle.dsa_check.specs.Places.{IsSpot, IsShallow};
 ghost use Rattle.dsa_check.specs.Warnings.{names_of, remark_names, is_named, told_for, told_keys};
 ghost use Rattle.dsa_check.specs.Warnings.{is_stray, stray_key_text, stray_texts, twice_key_text};
 ghost use Rattle.dsa_check.specs.Warnings.{twice_texts, object_texts, odd_at, warned_in};
+ghost use Rattle.dsa_check.specs.Warnings.{has_no_word, has_wrong_name, odd_name_of_kind};
+ghost use Rattle.dsa_check.specs.Warnings.{stray_texts_of_kind};
 ghost use Rattle.dsa_check.specs.Warnings.{step_texts, warnings_of_step, step_warnings};
 ghost use Rattle.dsa_check.specs.Warnings.{caps_warnings, warnings_of_value, warnings_told};
 ghost use Rattle.dsa_check.specs.Warnings.{HasPlace, IsOfStep, IsOfItem, IsOfPart, Tells, Warns};
 
 use crate::fields::{Key, found_in, is_of};
 use crate::finding::{Finding, Place, Reason, whole};
+use crate::friendly::calls_command;
 use crate::near::{near_key, near_name};
 use crate::reasons::plain_name;
 use crate::repeats::{caps_written, members_of, note_key, step_written};
 use crate::step_lines::{Steps, items_of, line_of, no_steps};
 use crate::tables::{CAPS, DOCUMENT};
-use dsa_scenario::{Field, Form, ScenarioFault, kind_of};
+use dsa_named::own_text;
+use dsa_scenario::{Field, Form, ScenarioFault, StepKind, kind_of};
 use json::Value as Written;
 use serde_json::Value;
 use std::alloc::{AllocError, Global};
@@ -43,11 +47,23 @@ pub const FLAG: Field = Field {
     form: Form::Truth,
 };
 
+// The key with the own name of an entry.
+const NAME: Field = Field {
+    name: "as",
+    form: Form::Text,
+};
+
 // The key of a remark, which any object may have.
 const REMARK_NAMES: [&str; 1] = ["note"];
 
 // The keys of a step beside those of its kind.
 const STEP_NAMES: [&str; 4] = ["do", "answer", "zf", "note"];
+
+// The same of a step that gives a name, with the own name.
+const OWN_NAMES: [&str; 5] = ["do", "answer", "zf", "note", "as"];
+
+// The same of a command that is called by its name, with what says it.
+const COMMAND_NAMES: [&str; 7] = ["do", "answer", "zf", "note", "command", "operand", "queues"];
 
 /// Adds what stands at the key of a step, where it is of another form.
 pub fn add_odd(step: &Value, field: Field, reasons: &mut Vec<Reason>) -> Result<(), AllocError>
@@ -68,6 +84,31 @@ pub fn add_odd(step: &Value, field: Field, reasons: &mut Vec<Reason>) -> Result<
             found: found_in(value),
             wanted: field.form,
         })?;
+    }
+    Ok(())
+}
+
+// Whether a text stands where a step has its own name, and is none.
+fn has_wrong_name(step: &Value) -> bool
+    ensures { result ≡ has_wrong_name (view step.now) }
+{
+    match step.get("as") {
+        Some(value) => value.as_str().is_some() && own_text(step).is_none(),
+        None => false,
+    }
+}
+
+// Adds what stands where a step of a kind that gives a name has its own name, and is none.
+fn add_odd_name(kind: StepKind, step: &Value, reasons: &mut Vec<Reason>) -> Result<(), AllocError>
+    ensures { OnOk result
+        (Tells reasons.old.items reasons.new.items (odd_name_of_kind (view step.now) (Some kind))) }
+{
+    if !matches!(kind, StepKind::Enqcmd | StepKind::Movdir | StepKind::Fetch) {
+        return Ok(());
+    }
+    add_odd(step, NAME, reasons)?;
+    if has_wrong_name(step) {
+        reasons.push(Reason::NoOwnName)?;
     }
     Ok(())
 }
@@ -225,6 +266,35 @@ fn add_twice<'a>(
     Ok(())
 }
 
+// Whether a step has no word, and calls its command by its name.
+fn has_no_word(step: &Value) -> bool
+    ensures { result ≡ has_no_word (view step.now) }
+{
+    step.get("word").is_none() && calls_command(step)
+}
+
+// Adds the keys of a step of this kind that nothing reads.
+fn add_strays_of_step(
+    alloc: Global,
+    kind: StepKind,
+    step: &Value,
+    reasons: &mut Vec<Reason>,
+) -> Result<(), AllocError>
+    ensures { OnOk result
+        (Tells reasons.old.items reasons.new.items
+        (stray_texts_of_kind (view step.now) (Some kind))) }
+{
+    match kind {
+        StepKind::Enqcmd | StepKind::Movdir | StepKind::Fetch => {
+            add_strays(alloc, step, kind.fields(), &OWN_NAMES, reasons)
+        }
+        StepKind::Command if has_no_word(step) => {
+            add_strays(alloc, step, kind.fields(), &COMMAND_NAMES, reasons)
+        }
+        _ => add_strays(alloc, step, kind.fields(), &STEP_NAMES, reasons),
+    }
+}
+
 // What is odd in an item of the steps.
 fn step_oddities(
     alloc: Global,
@@ -239,7 +309,8 @@ fn step_oddities(
     add_odd(step, ANSWER, &mut reasons)?;
     add_odd(step, FLAG, &mut reasons)?;
     if let Some(kind) = kind_of(step) {
-        add_strays(alloc, step, kind.fields(), &STEP_NAMES, &mut reasons)?;
+        add_odd_name(kind, step, &mut reasons)?;
+        add_strays_of_step(alloc, kind, step, &mut reasons)?;
     }
     add_twice(alloc, written, &mut reasons)?;
     Ok(reasons)

@@ -76,14 +76,20 @@ last-rows old rows new n e count =
     let added : length new ≡ length old + n = ap length e ∙ length-append old rows ∙ ap (λ k. length old + k) count in
     ap (λ k. drop k new) (from-end (length new) (length old) n added) ∙ past old rows new e
 
+-- the last of the fates, as many as the step ended
+pub ended-behind : (s s' : State) (event : Event) (r : Reply) → next s event r ≡ Some s'
+    → s'.work.fates ≡ s.work.fates ++ drop (length s'.work.fates - ended_by r) s'.work.fates
+ended-behind s s' event r h =
+    let told = next-tells s s' event r h in
+    let added = change-adds s s' told.change in
+    added.behind ∙ ap (λ rows. s.work.fates ++ rows)
+    (sym (last-rows s.work.fates added.rows s'.work.fates (ended_by r) added.behind (added.counted ∙ sym told.ended)))
+
 pub lost-behind : (s s' : State) (event : Event) (r : Reply) → next s event r ≡ Some s' → is_done r ≡ false
     → s'.work.fates ≡ s.work.fates ++ lost_rows r s'.work.fates
 lost-behind s s' event r h other =
-    let told = next-tells s s' event r h in
-    let added = change-adds s s' told.change in
-    let count = added.counted ∙ sym told.ended ∙ ended-lost r other in
-    added.behind ∙ ap (λ rows. s.work.fates ++ rows)
-    (sym (last-rows s.work.fates added.rows s'.work.fates (lost_by r) added.behind count))
+    ended-behind s s' event r h
+    ∙ ap (λ n. s.work.fates ++ drop (length s'.work.fates - n) s'.work.fates) (ended-lost r other)
 
 -- ---- what is done
 

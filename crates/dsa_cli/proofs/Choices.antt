@@ -1,6 +1,6 @@
 -- What options choose that have no value.
 use Rattle.std.proofs.Common.{◌≡◌, ◌∙◌, ℕ, Bool, true, false, List, [], Option, Some, unwrap_or, codes, length}
-use Rattle.std.proofs.Common.{refl, sym, ap, arith}
+use Rattle.std.proofs.Common.{refl, sym, ap, subst, arith}
 use Rattle.clap.specs.Walk.{Row, Text, one_of}
 use Rattle.dsa_cli.specs.CommandLine.{IsChosenBy, IsGivenElse}
 
@@ -50,6 +50,14 @@ pub first_later : {A : Type 0} {rows : List Row} {name : Text} {found : Bool} {f
 first_later option is so = record {
   given = λ has. let some = option.given has in absurd cc;
   left_out = λ out. so;
+}
+
+-- an option or another value is so, if that value is so
+pub or_else : {A : Type 0} {rows : List Row} {name : Text} {form other this : A} {IsSo : A → Type 0}
+    → IsGivenElse rows name form (λ o. o ≡ other) this → IsSo other → IsGivenElse rows name form IsSo this
+or_else {IsSo = IsSo} option so = record {
+  given = option.given;
+  left_out = λ out. subst IsSo (sym (option.left_out out)) so;
 }
 
 -- one of two is chosen where the option was found, and the other where it was not

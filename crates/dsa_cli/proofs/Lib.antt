@@ -14,3 +14,4 @@ pub mod ReportNames
 pub mod Setup
 pub mod Submissions
 pub mod ThreadTotals
+pub mod TooLong

@@ -13,7 +13,7 @@ use Rattle.dsa_cli.specs.CommandLine.{AreNumbersOf, AskWrongValue, AsksBy, AsksF
 use Rattle.dsa_cli.specs.CommandLine.{IsNumberOf, IsReportName, IsWrongIn, NameNothing}
 use Rattle.dsa_cli.specs.CommandLine.{NameReport, unknown_answer_text, unknown_range_text, wrong_value_text}
 use Rattle.dsa_cli.specs.CommandLine.{NameThreads, SayHighThreshold, SaysNumber, command_in}
-use Rattle.dsa_cli.specs.Threads.{IsAskedInRange}
+use Rattle.dsa_cli.specs.{Reports.{text_if_too_long}, Threads.{IsAskedInRange}}
 use Rattle.dsa_cli.proofs.ReportNames.{same_first}
 
 -- a command is named, or none
@@ -84,7 +84,7 @@ no_report_of found (Answer word) (report.Trace form run) wrong by = omega (arith
 no_report_of found (Answer word) (report.Chrome run) wrong by = omega (arith, same_first (sym wrong.0 ∙ by.0))
 no_report_of found (Answer word) report.Count wrong by = omega (arith, same_first (sym wrong.0 ∙ by))
 no_report_of found (Answer word) (report.Draw drawing run) wrong by = omega (arith, same_first (sym wrong.0 ∙ by.0))
-no_report_of found (Answer word) (report.Conform conformance) wrong by = omega (arith, same_first (sym wrong.0 ∙ by.0))
+no_report_of found (Answer word) (report.Conform conformance written) wrong by = omega (arith, same_first (sym wrong.0 ∙ by.0))
 no_report_of found (Answer word) report.Expand wrong by =
     let both : codes "explain" ≡ codes "expand" = sym wrong.0 ∙ by in
     cc
@@ -97,7 +97,7 @@ no_report_of found (Range text) (report.Draw drawing run) wrong by =
     let none : None ≡ Some drawing.steps =
     sym (ap (λ o. option_map_or range_of_text o (Some all_steps)) wrong.1 ∙ wrong.2) ∙ by.1 in
     cc
-no_report_of found (Range text) (report.Conform conformance) wrong by = omega (arith, same_first (sym wrong.0 ∙ by.0))
+no_report_of found (Range text) (report.Conform conformance written) wrong by = omega (arith, same_first (sym wrong.0 ∙ by.0))
 no_report_of found (Range text) report.Expand wrong by = omega (arith, same_first (sym wrong.0 ∙ by))
 
 -- what the words name, where a value is wrong
@@ -144,6 +144,18 @@ asks_wrong words (asked.HighThreshold load) value wrong is =
 -- the second character of a text
 abbrev second : Text → ℕ
 second text = get_or text 1 0
+
+-- `check` asks for no report that has no text of a document that is too long
+pub other_name : (found : Text × List Row) (report : Report) → IsAskedBy found report
+    → text_if_too_long report ≡ None → found.0 ≡ codes "check" → ⊥
+other_name found (report.Check check) by none same = cc
+other_name found (report.Explain selection run) by none same = omega (arith, same_first (sym by.0 ∙ same))
+other_name found (report.Trace form run) by none same = omega (arith, same_first (sym by.0 ∙ same))
+other_name found (report.Chrome run) by none same = omega (arith, same_first (sym by.0 ∙ same))
+other_name found report.Count by none same = omega (arith, ap second (sym by ∙ same))
+other_name found (report.Draw drawing run) by none same = omega (arith, same_first (sym by.0 ∙ same))
+other_name found (report.Conform conformance written) by none same = omega (arith, ap second (sym by.0 ∙ same))
+other_name found report.Expand by none same = omega (arith, same_first (sym by ∙ same))
 
 -- `threads` is no command that asks for a report
 no_report : (name : Text) → second name ≡ 104 → get_or name 0 0 ≡ 116 → IsReportName name → ⊥

@@ -17,7 +17,7 @@ use Rattle.clap.specs.Simple.{App, new_app, new_rule, on_top, subcommand_of}
 use Rattle.clap.specs.Simple.{with_subcommand}
 use Rattle.dsa_shared.specs.declared.settle.Totals.{Totals}
 use Rattle.dsa_scenario.specs.declared.faults.ScenarioFault.{ScenarioFault}
-use Rattle.dsa_trace.specs.declared.form.Trace.{Trace, TheVariants.{Table, Wide, Json}}
+use Rattle.dsa_trace.specs.declared.form.Trace.{Trace, TheVariants.{Table, Wide, Changes, Json}}
 use Rattle.dsa_check.specs.declared.checking.{Check.{Check}, CheckForm.{CheckForm}}
 use Rattle.dsa_check.specs.declared.checking.CheckForm.TheVariants.{Lines, Source}
 use Rattle.dsa_conform.specs.declared.rendering.Conformance.{Conformance}
@@ -26,6 +26,7 @@ use Rattle.dsa_chosen.specs.{declared.selection.Selection.{Selection}, Words.{an
 use Rattle.dsa_serve.specs.Dialogue.{AnswersAll, IsLate, IsStopped}
 use Rattle.dsa_cli.specs.Reports.{IsReported, IsReportCutShort, IsReportBegun}
 use Rattle.dsa_cli.specs.declared.reports.{Report.{Report}, Run.{Run, TheVariants.{Own, Seen}}}
+use Rattle.dsa_cli.specs.declared.reports.Written.{Written, TheVariants.{Strict, Friendly}}
 use Rattle.dsa_cli.specs.Threads.{IsInRange, AreTotalsOf, totals_text}
 use Rattle.dsa_cli.specs.declared.options.Workload.{Workload}
 use Rattle.dsa_cli.specs.declared.options.Asked.{Asked}
@@ -69,13 +70,14 @@ explain_app = command_app (codes "explain") (
 
 abbrev pub trace_app : App
 trace_app = command_app (codes "trace") (
-    flag_rule (codes "wide") ∷ flag_rule (codes "json") ∷ flag_rule (codes "chrome") ∷ flag_rule (codes "seen") ∷ [])
+    flag_rule (codes "wide") ∷ flag_rule (codes "changes") ∷ flag_rule (codes "json") ∷
+    flag_rule (codes "chrome") ∷ flag_rule (codes "seen") ∷ [])
 
 abbrev pub draw_app : App
 draw_app = command_app (codes "draw") (text_rule (codes "steps") ∷ flag_rule (codes "seen") ∷ [])
 
 abbrev pub conform_app : App
-conform_app = command_app (codes "conform") (flag_rule (codes "all") ∷ [])
+conform_app = command_app (codes "conform") (flag_rule (codes "all") ∷ flag_rule (codes "friendly") ∷ [])
 
 abbrev pub check_app : App
 check_app = command_app (codes "check") (
@@ -174,7 +176,8 @@ pub record IsGivenElse {A : Type 0} (rows : List Row) (name : Text) (form : A) (
 -- the form of a trace is the one that the first of its options asks for, where none is that of Chrome (profile)
 abbrev pub IsFormOf : List Row → Option Trace → Type 0
 IsFormOf rows form = IsGivenElse rows (codes "chrome") None (IsGivenElse rows (codes "json") (Some Json)
-    (IsGivenElse rows (codes "wide") (Some Wide) (λ other. other ≡ Some Table))) form
+    (IsGivenElse rows (codes "changes") (Some Changes)
+    (IsGivenElse rows (codes "wide") (Some Wide) (λ other. other ≡ Some Table)))) form
 
 -- the run is the one that was seen where the option `--seen` asks for that
 abbrev pub IsRunChosen : List Row → Run → Type 0
@@ -194,6 +197,10 @@ pub record IsCheckOf (rows : List Row) (check : Check) : Type 0 where
 -- all steps that differ are told where the option `--all` asks for that
 abbrev pub IsConformanceChosen : List Row → Conformance → Type 0
 IsConformanceChosen rows conformance = IsChosenBy rows (codes "all") true false conformance.is_all
+
+-- the document is written as `expand` reads it where the option `--friendly` asks for that
+abbrev pub IsWrittenIn : List Row → Written → Type 0
+IsWrittenIn rows written = IsChosenBy rows (codes "friendly") Friendly Strict written
 
 -- the steps that the text of the option `--steps` names, and all where it is not given
 abbrev pub range_asked : List Row → Option StepRange
@@ -226,8 +233,8 @@ IsAskedBy found (report.Chrome run) = (found.0 ≡ codes "trace") × IsFormOf fo
 IsAskedBy found report.Count = found.0 ≡ codes "count"
 IsAskedBy found (report.Draw drawing run) =
     (found.0 ≡ codes "draw") × (range_asked found.1 ≡ Some drawing.steps) × IsRunChosen found.1 run
-IsAskedBy found (report.Conform conformance) =
-    (found.0 ≡ codes "conform") × IsConformanceChosen found.1 conformance
+IsAskedBy found (report.Conform conformance written) =
+    (found.0 ≡ codes "conform") × IsConformanceChosen found.1 conformance × IsWrittenIn found.1 written
 IsAskedBy found report.Expand = found.0 ≡ codes "expand"
 
 -- the command is one that asks for a report

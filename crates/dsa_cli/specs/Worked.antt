@@ -171,8 +171,14 @@ check_in form = record { is_strict = false; form = form }
 abbrev pub comparison : Bool → Conformance
 comparison is_all = record { is_all = is_all }
 
+-- the matches of `conform` with this option alone
+abbrev pub conform_rows : Text → List Row
+conform_rows given = option_row (codes "all") (value_of given (codes "all"))
+    ++ option_row (codes "friendly") (value_of given (codes "friendly"))
+
 -- the matches of `trace` with the option of this form, and this value of `--seen`
 abbrev pub trace_rows : Text → Text → List Row
 trace_rows form seen = option_row (codes "wide") (value_of form (codes "wide"))
+    ++ option_row (codes "changes") (value_of form (codes "changes"))
     ++ option_row (codes "json") (value_of form (codes "json"))
     ++ option_row (codes "chrome") (value_of form (codes "chrome")) ++ option_row (codes "seen") seen

@@ -14,7 +14,7 @@ mod totals;
 mod words;
 
 pub use options::{Asked, Workload, WrongValue, read_words};
-pub use reports::{Report, Run};
+pub use reports::{Report, Run, Written};
 pub use threads::{ThreadsFault, run_workload};
 pub use totals::render_totals;
 pub use words::{answer_words, run_words, tell};

@@ -12,14 +12,14 @@ ghost use Rattle.dsa_cli.specs.CommandLine.{text_rule, number_rule, default_rule
 ghost use Rattle.dsa_cli.specs.CommandLine.{check_app, explain_app, trace_app, draw_app};
 ghost use Rattle.dsa_cli.specs.CommandLine.{conform_app, threads_app, top_app, program_app};
 ghost use Rattle.dsa_cli.specs.CommandLine.{IsNumberOf, IsNumberGiven, AreNumbersOf};
-ghost use Rattle.dsa_cli.specs.CommandLine.{IsChosenBy, IsFormOf, IsRunChosen, IsCheckOf};
+ghost use Rattle.dsa_cli.specs.CommandLine.{IsChosenBy, IsFormOf, IsGivenElse, IsRunChosen, IsCheckOf};
 ghost use Rattle.dsa_cli.specs.CommandLine.{IsAskedBy, IsReportName, AsksBy, AsksFor};
-ghost use Rattle.dsa_cli.specs.CommandLine.{IsCheckFormOf, IsConformanceChosen, range_asked};
-ghost use Rattle.dsa_cli.specs.CommandLine.{unknown_answer};
+ghost use Rattle.dsa_cli.specs.CommandLine.{IsCheckFormOf, IsConformanceChosen, IsWrittenIn};
+ghost use Rattle.dsa_cli.specs.CommandLine.{range_asked, unknown_answer};
 ghost use Rattle.dsa_draw.specs.Ranges.{range_of_text};
 ghost use Rattle.dsa_cli.specs.CommandLine.{faults_of_words};
 
-use crate::reports::{Report, Run};
+use crate::reports::{Report, Run, Written};
 use clap::{Arg, ArgAction, ArgMatches, Command, Error, value_parser};
 use dsa_check::{Check, CheckForm};
 use dsa_chosen::{AnswerWords, Selection};
@@ -128,9 +128,10 @@ const TRACE_HELP: &str = "\
 Reads one scenario document (JSON) from standard input, makes its steps on a model of a
 device, and writes a line for each step: its number, the event, the answer, and what the
 device shows after it. A line follows for each entry that the device still holds. With
---wide the row shows what is not configured, too. With --chrome it writes Chrome trace
-events, which Perfetto shows. With --seen the run is one that conform follows, by the
-\"answer\" and the \"zf\" of the steps.
+--wide the row shows what is not configured, too. With --changes it shows only what
+differs from the row before. With --json each line is a JSON object. With --chrome it
+writes Chrome trace events, which Perfetto shows. With --seen the run is one that conform
+follows, by the \"answer\" and the \"zf\" of the steps.
 
 Exit status: 0 done, 1 a fault (its line goes to standard error), 2 a usage error.";
 
@@ -156,7 +157,7 @@ device was seen to answer: \"answer\", the line of the step with or without the 
 entry, or \"zf\", the zero flag that ENQCMD left. The model follows as long as the rules
 allow these answers. At the first step where they do not, the program writes the step and
 all answers that they allow. With --all it goes on after such a step, as if nothing had
-been seen of it, and writes each.
+been seen of it, and writes each. With --friendly the document is one that expand reads.
 
 Exit status: 0 all answers are allowed, 1 one is not, or a fault (its line goes to
 standard error), 2 a usage error.";
@@ -387,6 +388,7 @@ fn trace_command<'a>(alloc: Global) -> Result<Command<'a>, AllocError>
     let about = "What does the device hold after each step?";
     let command = plain_command(alloc, "trace", about, TRACE_HELP);
     let command = with_flag(alloc, command, "wide", "Show what is not configured, too")?;
+    let command = with_flag(alloc, command, "changes", "Show only what a step changed")?;
     let command = with_flag(alloc, command, "json", "Write a JSON object in each line")?;
     let command = with_flag(alloc, command, "chrome", "Write Chrome trace events")?;
     with_seen(alloc, command)
@@ -408,7 +410,13 @@ fn conform_command<'a>(alloc: Global) -> Result<Command<'a>, AllocError>
 {
     let about = "May a device answer as another one was seen to answer?";
     let command = plain_command(alloc, "conform", about, CONFORM_HELP);
-    with_flag(alloc, command, "all", "Write each step that differs")
+    let command = with_flag(alloc, command, "all", "Write each step that differs")?;
+    with_flag(
+        alloc,
+        command,
+        "friendly",
+        "Read a document that expand reads",
+    )
 }
 
 fn command_line<'a>(alloc: Global) -> Result<Command<'a>, AllocError>
@@ -478,20 +486,21 @@ fn is_given(given: &ArgMatches<'_>, name: &str) -> bool
     given.get_flag(name)
 }
 
+// `form` where an option is given that takes no value, and else `other`.
+fn if_given<T: Copy>(given: &ArgMatches<'_>, name: &str, form: T, other: T) -> T
+    ensures { IsGivenElse (rows_of (found_of given.now)) name.now form (λ o. o ≡ other) result }
+{
+    if is_given(given, name) { form } else { other }
+}
+
 // The form of a trace that the first of these options asks for, where it is not that of Chrome.
 fn form_of(given: &ArgMatches<'_>) -> Option<Trace>
     ensures { IsFormOf (rows_of (found_of given.now)) result }
 {
-    if is_given(given, "chrome") {
-        return None;
-    }
-    if is_given(given, "json") {
-        return Some(Trace::Json);
-    }
-    if is_given(given, "wide") {
-        return Some(Trace::Wide);
-    }
-    Some(Trace::Table)
+    let wide = if_given(given, "wide", Some(Trace::Wide), Some(Trace::Table));
+    let changes = if_given(given, "changes", Some(Trace::Changes), wide);
+    let json = if_given(given, "json", Some(Trace::Json), changes);
+    if_given(given, "chrome", None, json)
 }
 
 // The run that the option `--seen` asks for.
@@ -519,16 +528,11 @@ fn trace_of<'a>(given: &ArgMatches<'_>) -> Report<'a>
 fn check_form_of(given: &ArgMatches<'_>) -> CheckForm
     ensures { IsCheckFormOf (rows_of (found_of given.now)) result }
 {
-    if is_given(given, "json") {
-        return CheckForm::Json;
-    }
-    if is_given(given, "color") {
-        return CheckForm::Source { is_colored: true };
-    }
-    if is_given(given, "source") {
-        return CheckForm::Source { is_colored: false };
-    }
-    CheckForm::Lines
+    let plain = CheckForm::Source { is_colored: false };
+    let colored = CheckForm::Source { is_colored: true };
+    let source = if_given(given, "source", plain, CheckForm::Lines);
+    let color = if_given(given, "color", colored, source);
+    if_given(given, "json", CheckForm::Json, color)
 }
 
 // The check that the options of `check` ask for.
@@ -547,6 +551,17 @@ fn conformance_of(given: &ArgMatches<'_>) -> Conformance
 {
     Conformance {
         is_all: is_given(given, "all"),
+    }
+}
+
+// The form of the document that the option of `conform` names.
+fn written_in(given: &ArgMatches<'_>) -> Written
+    ensures { IsWrittenIn (rows_of (found_of given.now)) result }
+{
+    if is_given(given, "friendly") {
+        Written::Friendly
+    } else {
+        Written::Strict
     }
 }
 
@@ -664,7 +679,7 @@ fn report_asked<'a>(matches: &ArgMatches<'a>) -> Option<Asked<'a>>
         return Some(Asked::Report(Report::Expand));
     }
     let given = matches.subcommand_matches("conform")?;
-    Some(Asked::Report(Report::Conform(conformance_of(given))))
+    Some(Asked::Report(Report::Conform(conformance_of(given), written_in(given))))
 }
 
 /// What the words ask for, or what `clap` has to say.

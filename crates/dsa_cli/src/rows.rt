@@ -42,33 +42,36 @@ ghost use Rattle.clap.specs.declared.error.kind.ErrorKind.TheVariants.{DisplayHe
 ghost use Rattle.dsa_cli.specs.declared.reports.Report.TheVariants.{Check, Expand, Explain, Trace, Count};
 ghost use Rattle.dsa_cli.specs.declared.reports.Report.TheVariants.{Chrome, Draw, Conform};
 ghost use Rattle.dsa_cli.specs.declared.reports.Run.TheVariants.{Own, Seen};
+ghost use Rattle.dsa_cli.specs.declared.reports.Written.TheVariants.{Friendly, Strict};
 ghost use Rattle.dsa_trace.specs.declared.form.Trace.{Trace as TraceForm};
-ghost use Rattle.dsa_trace.specs.declared.form.Trace.TheVariants.{Table, Wide, Json};
+ghost use Rattle.dsa_trace.specs.declared.form.Trace.TheVariants.{Table, Wide, Changes, Json};
 ghost use Rattle.dsa_scenario.specs.declared.faults.ScenarioFault.TheVariants.{BadCaps, Read};
 ghost use Rattle.dsa_scenario.specs.declared.faults.ScenarioFault.TheVariants.{BadStep};
 ghost use Rattle.dsa_scenario.specs.declared.faults.ScenarioFault.TheVariants.{TooLong, Write};
 ghost use Rattle.dsa_scenario.specs.declared.faults.ScenarioFault.TheVariants.{OutOfMemory};
 ghost use Rattle.dsa_scenario.specs.declared.watched.WatchedWriter.{WatchedWriter};
 ghost use Rattle.dsa_scenario.specs.Scenario.{HasFault, IsTextCutShort, IsTextWritten};
-ghost use Rattle.dsa_scenario.specs.Streams.{AreLinesOfStart, IsTextBegun};
 ghost use Rattle.dsa_serve.specs.Dialogue.{AnswersAll};
 ghost use Rattle.dsa_scenario.specs.Faults.{fault_line};
 ghost use Rattle.dsa_scenario.specs.Watched.{has_refused, is_closed, IsSameWriter};
-ghost use Rattle.dsa_check.specs.Check.{IsCheckReportOf};
+ghost use Rattle.dsa_check.specs.Check.{IsCheckReportOf, too_long_text};
 ghost use Rattle.dsa_check.specs.Worked.{plain_check, strict_check};
-ghost use Rattle.dsa_conform.specs.{AsSeen.{IsMadeAsSeen}, Every.{IsConformanceOf}};
+ghost use Rattle.dsa_conform.specs.Every.{IsConformanceOf};
 ghost use Rattle.dsa_conform.specs.Run.{IsUnread};
 ghost use Rattle.std.specs.Str.Parse.{IsNumeral};
-ghost use Rattle.dsa_explain_lines.specs.Run.{IsExplanation};
+ghost use Rattle.dsa_named_lines.specs.Run.{AreNamedLines, AreNamedLinesOf};
+ghost use Rattle.dsa_named_seen.specs.Seen.{IsNamedAsSeen};
 ghost use Rattle.dsa_chosen.specs.declared.words.AnswerWords.{AnswerWords};
-ghost use Rattle.dsa_chosen.specs.{Run.{AreChosen, AreChosenOf}, Worked.{all_lines, of_answers}};
+ghost use Rattle.dsa_chosen.specs.Worked.{all_lines, of_answers};
 ghost use Rattle.dsa_chosen.specs.Worked.{of_name};
-ghost use Rattle.dsa_trace.specs.Lines.{trace_line_of_step};
-ghost use Rattle.dsa_trace.specs.Run.{IsTrace, IsTraceOf};
+ghost use Rattle.dsa_named_trace.specs.Run.{IsNamedTrace, IsNamedTraceOf};
+ghost use Rattle.dsa_named_trace.specs.Streams.{AreNamedLinesOfStart, IsNamedTraceBegun};
 ghost use Rattle.dsa_chrome.specs.Traces.{IsChromeTrace};
 ghost use Rattle.dsa_count.specs.Totals.{AreTotalsOfDocument};
 ghost use Rattle.dsa_draw.specs.{Drawings.{IsDrawingOf}, Ranges.{all_steps}};
+ghost use Rattle.dsa_expand.specs.Friendly.{IsMadeOfFriendly};
 ghost use Rattle.dsa_cli.specs.Reports.{IsReportBegun, IsReportCutShort, IsReportOf, IsReported};
+ghost use Rattle.dsa_cli.specs.Reports.{IsTooLongCut, IsTooLongTold, text_if_too_long};
 ghost use Rattle.dsa_cli.specs.Endings.{IsEnd, IsEndedBy, IsFaultTold, IsQuiet, IsStoppedBy};
 ghost use Rattle.dsa_cli.specs.Endings.{IsRefusal, IsStoppedOnTheWay};
 ghost use Rattle.dsa_cli.specs.Endings.{IsUnwritten, IsWriteRefused};
@@ -96,7 +99,7 @@ ghost use Rattle.dsa_cli.specs.Worked.{client_seats_after};
 ghost use Rattle.dsa_cli.specs.Worked.{engine_seats_after, value_in, json_trace, seen_json_trace};
 ghost use Rattle.dsa_cli.specs.Worked.{words_with_seen, strict_words, explain_with};
 ghost use Rattle.dsa_cli.specs.Worked.{explain_rows, chosen_words, lines_of_one_entry, lent_text};
-ghost use Rattle.dsa_cli.specs.Worked.{check_in, check_rows, comparison, draw_rows, drawing_of};
+ghost use Rattle.dsa_cli.specs.Worked.{check_in, check_rows, comparison, conform_rows, draw_rows, drawing_of};
 ghost use Rattle.dsa_cli.specs.Worked.{whole_drawing};
 
 /// What the words may be: none, or the command `threads` with its options.
@@ -163,8 +166,12 @@ pub fn options_of_commands()
         (check_app ∷ explain_app ∷ trace_app ∷ draw_app ∷ conform_app ∷ threads_app ∷ [])
         ≡ (codes "check", codes "json" ∷ codes "source" ∷ codes "color" ∷ codes "strict" ∷ [])
         ∷ (codes "explain", codes "name" ∷ codes "client" ∷ codes "only" ∷ codes "seen" ∷ [])
-        ∷ (codes "trace", codes "wide" ∷ codes "json" ∷ codes "chrome" ∷ codes "seen" ∷ [])
-        ∷ (codes "draw", codes "steps" ∷ codes "seen" ∷ []) ∷ (codes "conform", codes "all" ∷ [])
+        ∷ (
+          codes "trace",
+          codes "wide" ∷ codes "changes" ∷ codes "json" ∷ codes "chrome" ∷ codes "seen" ∷ [],
+        )
+        ∷ (codes "draw", codes "steps" ∷ codes "seen" ∷ [])
+        ∷ (codes "conform", codes "all" ∷ codes "friendly" ∷ [])
         ∷ (
           codes "threads",
           codes "clients" ∷ codes "engines" ∷ codes "each" ∷ codes "turns"
@@ -496,13 +503,14 @@ pub fn dialogue_served()
 pub fn reports_written()
     ensures all { (bytes text : List ℕ)
         → IsConformanceOf false bytes (Some BadCaps) text → length bytes ≤ 1_048_576
-        → IsReported (Conform (comparison false)) (Some BadCaps) (Some bytes) (Some [])
+        → IsReported (Conform (comparison false) Strict) (Some BadCaps) (Some bytes) (Some [])
         (Some (codes "k"))
         (Some (codes "k" ++ text)) }
     ensures first_bytes { (bytes text : List ℕ)
         → IsConformanceOf false bytes (Some BadCaps) text → length bytes ≤ 1_048_576
         → 3 < length text
-        → IsReportCutShort (Conform (comparison false)) (Some bytes) (Some []) (Some (codes "k"))
+        → IsReportCutShort (Conform (comparison false) Strict) (Some bytes) (Some [])
+        (Some (codes "k"))
         (Some (codes "k" ++ take 3 text)) }
     ensures drawing { (bytes text : List ℕ)
         → IsDrawingOf all_steps bytes text → length bytes ≤ 1_048_576
@@ -519,6 +527,32 @@ pub fn reports_written()
     ensures cut { (found : Text × List Row) (had left held holds : Option (List ℕ))
         (is : IsReportCut found had left held holds)
         → IsAskedBy found is.0 × IsReportCutShort is.0 had left held holds }
+{}
+
+/// What is written of a document that is too long: the text of a check, and of no other report.
+pub fn documents_too_long()
+    ensures texts { map text_if_too_long
+        (Check strict_check ∷ Check (check_in check_form.Json) ∷ Explain all_lines Own
+        ∷ Trace Json Own ∷ Chrome Own ∷ Count ∷ Draw whole_drawing Seen
+        ∷ Conform (comparison true) Friendly ∷ Expand ∷ [])
+        ≡ Some (codes "document too long: it has more than 1048576 bytes\n")
+        ∷ Some (too_long_text check_form.Json) ∷ replicate 7 None }
+    ensures told { (bytes : List ℕ) → 1_048_576 < length bytes
+        → IsReported (Check plain_check) (Some TooLong) (Some bytes) (Some [])
+        (Some (codes "k"))
+        (Some (codes "k" ++ too_long_text check_form.Lines)) }
+    ensures nothing_else_told { (had left held holds : Option (List ℕ))
+        → IsReported (Check plain_check) (Some BadCaps) had left held holds
+        → IsTextWritten (λ bytes text. IsCheckReportOf plain_check bytes (Some BadCaps) text)
+        had left held holds }
+    ensures no_totals { (had left held holds : Option (List ℕ))
+        → ¬ IsReported Count (Some TooLong) had left held holds }
+    ensures cut { (bytes : List ℕ) → 1_048_576 < length bytes
+        → IsReportCutShort (Check plain_check) (Some bytes) (Some []) (Some (codes "k"))
+        (Some (codes "kdoc")) }
+    ensures not_cut { (had left held holds : Option (List ℕ))
+        → ¬ IsTooLongCut (Some []) had left held holds }
+    ensures no_byte { ¬ IsTooLongTold (Some (codes "a")) (Some []) (Some []) None None }
 {}
 
 /// The commands that ask for a report.
@@ -563,12 +597,18 @@ pub fn names_of_reports()
         (Draw (drawing_of 3 10) Own) }
     ensures no_other_steps { ¬ IsAskedBy (codes "draw", draw_rows (codes "3..9") (codes "false"))
         (Draw whole_drawing Own) }
-    ensures asks_conform { IsAskedBy (codes "conform", option_row (codes "all") (codes "false"))
-        (Conform (comparison false)) }
-    ensures asks_all { IsAskedBy (codes "conform", option_row (codes "all") (codes "true"))
-        (Conform (comparison true)) }
+    ensures asks_conform { IsAskedBy (codes "conform", conform_rows [])
+        (Conform (comparison false) Strict) }
+    ensures asks_all { IsAskedBy (codes "conform", conform_rows (codes "all"))
+        (Conform (comparison true) Strict) }
+    ensures asks_friendly { IsAskedBy (codes "conform", conform_rows (codes "friendly"))
+        (Conform (comparison false) Friendly) }
+    ensures no_friendly { ¬ IsAskedBy (codes "conform", conform_rows (codes "all"))
+        (Conform (comparison true) Friendly) }
     ensures asks_wide { IsAskedBy (codes "trace", trace_rows (codes "wide") (codes "false"))
         (Trace Wide Own) }
+    ensures asks_changes { IsAskedBy (codes "trace", trace_rows (codes "changes") (codes "false"))
+        (Trace Changes Own) }
     ensures asks_trace { IsAskedBy (codes "trace", trace_rows [] (codes "false"))
         (Trace Table Own) }
     ensures asks_json { IsAskedBy (codes "trace", trace_rows (codes "json") (codes "false"))
@@ -810,17 +850,22 @@ pub fn reports_of_documents()
         → IsReportOf (Check plain_check) bytes (Some BadCaps) text
         → IsCheckReportOf plain_check bytes (Some BadCaps) text }
     ensures explanation { (bytes text : List ℕ)
-        → IsReportOf (Explain all_lines Own) bytes None text → IsExplanation bytes text }
+        → IsReportOf (Explain all_lines Own) bytes None text
+        → AreNamedLines all_lines bytes text }
     ensures chosen { (bytes text : List ℕ)
-        → IsReportOf (Explain (of_name 3) Own) bytes None text → AreChosen (of_name 3) bytes text }
+        → IsReportOf (Explain (of_name 3) Own) bytes None text
+        → AreNamedLines (of_name 3) bytes text }
     ensures seen_explanation { (bytes text : List ℕ)
         → IsReportOf (Explain (of_name 3) Seen) bytes None text
-        → IsMadeAsSeen (AreChosenOf (of_name 3)) bytes None text }
+        → IsNamedAsSeen (AreNamedLinesOf (of_name 3)) bytes None text }
+    ensures friendly { (bytes text : List ℕ)
+        → IsReportOf (Conform (comparison false) Friendly) bytes None text
+        → IsMadeOfFriendly (IsConformanceOf false) bytes None text }
     ensures trace { (bytes text : List ℕ)
-        → IsReportOf (Trace Json Own) bytes None text → IsTrace Json bytes text }
+        → IsReportOf (Trace Json Own) bytes None text → IsNamedTrace Json bytes text }
     ensures seen_trace { (bytes text : List ℕ)
         → IsReportOf (Trace Json Seen) bytes None text
-        → IsMadeAsSeen (IsTraceOf Json) bytes None text }
+        → IsNamedAsSeen (IsNamedTraceOf Json) bytes None text }
     ensures chrome_trace { (bytes text : List ℕ)
         → IsReportOf (Chrome Own) bytes None text → IsChromeTrace bytes text }
     ensures totals { (bytes text : List ℕ)
@@ -832,7 +877,7 @@ pub fn reports_of_documents()
         → IsReportOf (Draw whole_drawing Seen) bytes (Some (BadStep 7)) text
         → IsUnread bytes 7 × (text ≡ []) }
     ensures conformance { (bytes text : List ℕ)
-        → IsReportOf (Conform (comparison true)) bytes (Some BadCaps) text
+        → IsReportOf (Conform (comparison true) Strict) bytes (Some BadCaps) text
         → IsConformanceOf true bytes (Some BadCaps) text }
 {}
 
@@ -898,10 +943,14 @@ pub fn asked()
         (Report (Draw (drawing_of 3 10) Own)) }
     ensures no_steps { AsksFor (codes "draw" ∷ codes "--steps" ∷ codes "9..3" ∷ [])
         (WrongValue (Range (lent_text (codes "9..3")))) }
-    ensures conform { AsksFor (codes "conform" ∷ []) (Report (Conform (comparison false))) }
+    ensures conform { AsksFor (codes "conform" ∷ []) (Report (Conform (comparison false) Strict)) }
     ensures conform_all { AsksFor (codes "conform" ∷ codes "--all" ∷ [])
-        (Report (Conform (comparison true))) }
+        (Report (Conform (comparison true) Strict)) }
+    ensures friendly { AsksFor (codes "conform" ∷ codes "--friendly" ∷ [])
+        (Report (Conform (comparison false) Friendly)) }
     ensures wide { AsksFor (codes "trace" ∷ codes "--wide" ∷ []) (Report (Trace Wide Own)) }
+    ensures changes { AsksFor (codes "trace" ∷ codes "--wide" ∷ codes "--changes" ∷ [])
+        (Report (Trace Changes Own)) }
     ensures json_check { AsksFor (codes "check" ∷ codes "--json" ∷ [])
         (Report (Check (check_in check_form.Json))) }
     ensures colored_check { AsksFor (codes "check" ∷ codes "--source" ∷ codes "--color" ∷ [])
@@ -954,13 +1003,12 @@ pub fn reports_begun()
         (Some []) (λ n. Some (n ∷ [])) 3 4 }
     ensures rows { (had left held holds : Option (List ℕ))
         → IsReportBegun (Trace Json Own) had left held holds
-        → IsTextWritten (AreLinesOfStart (trace_line_of_step Json)) had left held holds }
+        → IsTextWritten (AreNamedLinesOfStart Json) had left held holds }
     ensures no_drawing { (had left held holds : Option (List ℕ))
         → ¬ IsReportLeft (codes "draw", []) had left held holds }
     ensures no_seen_trace { (form : TraceForm) (had left held holds : Option (List ℕ))
         → ¬ IsReportBegun (Trace form Seen) had left held holds }
     ensures trace_cut { (had left held holds : Option (List ℕ))
         → IsReportCutShort (Trace Table Own) had left held holds
-        → IsTextCutShort (IsTextBegun (IsTraceOf Table) (trace_line_of_step Table)) had left held
-        holds }
+        → IsTextCutShort (IsNamedTraceBegun Table) had left held holds }
 {}

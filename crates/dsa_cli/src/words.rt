@@ -1,16 +1,17 @@
 //! What the words of the command line make the program do.
 
 ghost use Rattle.std.specs.Prelude.{◌≡◌, ◌≢◌, ◌⊎◌, ◌≤◌, ◌<◌, ◌++◌, true, false, ℕ};
-ghost use Rattle.std.specs.Prelude.{List, Some, None, [], length, take, codes, map, string_bytes};
+ghost use Rattle.std.specs.Prelude.{List, Some, None, [], length, take, codes, map, option_map};
+ghost use Rattle.std.specs.Prelude.{string_bytes};
 ghost use Rattle.std.specs.Prelude.{IfSome};
 ghost use Rattle.std.specs.Io.KnownBytes.{Appends};
 ghost use Rattle.clap.specs.Words.{Row, Text, kind_of};
 ghost use Rattle.dsa_shared.specs.declared.settle.Totals.{Totals};
 ghost use Rattle.dsa_cli.specs.declared.options.{Workload.{Workload}, WrongValue.{WrongValue}};
+ghost use Rattle.dsa_cli.specs.declared.reports.{Report.{Report}, Run.{Run}};
 ghost use Rattle.dsa_scenario.specs.declared.faults.ScenarioFault.{ScenarioFault};
 ghost use Rattle.dsa_scenario.specs.Faults.{fault_line};
-ghost use Rattle.dsa_scenario.specs.Scenario.{IsRenderingOf, IsTextWritten, IsTextCutShort};
-ghost use Rattle.dsa_scenario.specs.Scenario.{IsCutShort};
+ghost use Rattle.dsa_scenario.specs.Scenario.{IsRenderingOf, IsTextWritten, IsCutShort};
 ghost use Rattle.dsa_cli.specs.declared.threads.ThreadsFault.{ThreadsFault};
 ghost use Rattle.dsa_cli.specs.Threads.{IsInRange, AreTotalsOf, threads_fault_line, totals_text};
 ghost use Rattle.dsa_scenario.specs.Watched.{watched_contents, has_refused, is_closed};
@@ -27,17 +28,17 @@ ghost use Rattle.dsa_cli.specs.Endings.{IsEnd, IsEndedBy, IsFaultTold, IsQuiet, 
 ghost use Rattle.dsa_cli.specs.Endings.{IsRefusal, IsStoppedBy, IsStoppedOnTheWay};
 ghost use Rattle.dsa_cli.specs.Endings.{IsUnwritten};
 ghost use Rattle.dsa_cli.specs.Reports.{IsReported, IsReportCutShort, IsReportBegun};
+ghost use Rattle.dsa_cli.specs.Reports.{IsTextOrTooLong, IsTextOrTooLongCut, text_if_too_long};
 
 use crate::options::{Asked, Workload, WrongValue, read_words};
-use crate::reports::{Report, Run};
+use crate::reports::Report;
 use crate::threads::run_workload;
 use clap::Error;
 use clap::error::ErrorKind;
-use dsa_chosen::Chosen;
-use dsa_chrome::ChromeTrace;
-use dsa_conform::AsSeen;
-use dsa_scenario::{PlainRun, Render, ScenarioFault, WatchedWriter, render_input, stream_input};
+use dsa_named_trace::stream_trace;
+use dsa_scenario::{PlainRun, Render, ScenarioFault, WatchedWriter, render_input};
 use dsa_serve::serve_watched;
+use dsa_trace::Trace;
 use std::alloc::Global;
 use std::fmt::Display;
 use std::io::{Read, Write};
@@ -99,10 +100,38 @@ fn tell_reader<O: Write, E: Write, F: Display>(
     tell_watched(err, fault)
 }
 
-// Writes what `what` makes of the document that the reader gives, and the line of the fault.
+// Writes all of the text of a document that is too long, and the line of the fault.
+fn write_too_long<O: Write, E: Write>(
+    text: &str,
+    out: &mut WatchedWriter<'_, O>,
+    err: &mut WatchedWriter<'_, E>,
+) -> u8
+    ensures status { result ≡ 1 }
+    ensures ended { IsEndedBy (λ fault. (fault ≡ ScenarioFault.TooLong)
+        × Appends (watched_contents O.contents out.old) (watched_contents O.contents out.new)
+        text.now
+        ⊎ (fault ≡ ScenarioFault.Write)
+        × (has_refused out.new ≡ true)
+        × ((count : ℕ)
+        × (count < length text.now)
+        × Appends (watched_contents O.contents out.old) (watched_contents O.contents out.new)
+        (take count text.now)))
+        out.new E.contents err.old err.new }
+    ensures ends { IsEnd result out.old out.new err.old err.new }
+{
+    let fault = match dsa_scenario::write_text(out, text.as_bytes()) {
+        Ok(()) => ScenarioFault::TooLong,
+        Err(fault) => fault,
+    };
+    tell_reader(out, err, &fault)
+}
+
+// Writes what `what` makes of the document that the reader gives, and the line of the fault. Of a
+// document that is too long it writes this text, where there is one.
 fn write_text<D: Render, R: Read, O: Write, E: Write>(
     alloc: Global,
     what: &D,
+    if_too_long: Option<&str>,
     reader: &mut R,
     out: &mut WatchedWriter<'_, O>,
     err: &mut WatchedWriter<'_, E>,
@@ -111,14 +140,15 @@ fn write_text<D: Render, R: Read, O: Write, E: Write>(
         → IsTextWritten (λ bytes text. D.is_rendering what.now bytes None text)
         (R.remaining reader.old) (R.remaining reader.new)
         (watched_contents O.contents out.old) (watched_contents O.contents out.new) }
-    ensures failed { result ≡ 1
-        → IsEndedBy (λ fault. IsTextWritten
-        (λ bytes text. D.is_rendering what.now bytes (Some fault) text)
+    ensures failed { let told = option_map (λ text. text.now) if_too_long.entry in
+        result ≡ 1
+        → IsEndedBy (λ fault. IsTextOrTooLong (D.is_rendering what.now) told (Some fault)
         (R.remaining reader.old) (R.remaining reader.new)
         (watched_contents O.contents out.old) (watched_contents O.contents out.new)
-        ⊎ IsStoppedBy fault (IsTextCutShort (D.is_rendering what.now))
+        ⊎ IsStoppedBy fault (IsTextOrTooLongCut (D.is_rendering what.now) told)
         (R.remaining reader.old) (R.remaining reader.new)
         (watched_contents O.contents) out.old out.new
+        × (fault ≡ ScenarioFault.TooLong → told ≡ None)
         × IsWriteRefused fault out.new)
         out.new E.contents err.old err.new }
     ensures ends { IsEnd result out.old out.new err.old err.new }
@@ -133,6 +163,41 @@ fn write_text<D: Render, R: Read, O: Write, E: Write>(
                 Some(fault) => tell_reader(out, err, &fault),
             }
         }
+        Err(fault) => match (fault, if_too_long) {
+            (ScenarioFault::TooLong, Some(text)) => write_too_long(text, out, err),
+            _ => tell_reader(out, err, &fault),
+        },
+    }
+}
+
+// Writes the rows of a trace of the document that the reader gives while its run is made, and the
+// line of the fault.
+fn write_trace<R: Read, O: Write, E: Write>(
+    alloc: Global,
+    form: Trace,
+    reader: &mut R,
+    out: &mut WatchedWriter<'_, O>,
+    err: &mut WatchedWriter<'_, E>,
+) -> u8
+    ensures done { result ≡ 0
+        → IsReported (Report.Trace form Run.Own) None (R.remaining reader.old)
+        (R.remaining reader.new)
+        (watched_contents O.contents out.old) (watched_contents O.contents out.new) }
+    ensures failed { result ≡ 1
+        → IsEndedBy (λ fault. IsStoppedOnTheWay fault
+        (IsReportCutShort (Report.Trace form Run.Own)) (IsReportBegun (Report.Trace form Run.Own))
+        (R.remaining reader.old) (R.remaining reader.new)
+        (watched_contents O.contents) out.old out.new
+        × IsWriteRefused fault out.new)
+        out.new E.contents err.old err.new }
+    ensures ends { IsEnd result out.old out.new err.old err.new }
+{
+    match stream_trace(alloc, form, reader, out) {
+        Ok(document) => {
+            // As in `write_text`, the system frees it.
+            mem::forget(document);
+            DONE
+        }
         Err(fault) => tell_reader(out, err, &fault),
     }
 }
@@ -140,56 +205,29 @@ fn write_text<D: Render, R: Read, O: Write, E: Write>(
 // Writes the report on the document that the reader gives, and the line of the fault.
 fn write_report<R: Read, O: Write, E: Write>(
     alloc: Global,
-    report: Report<'_>,
+    report: &Report<'_>,
     reader: &mut R,
     out: &mut WatchedWriter<'_, O>,
     err: &mut WatchedWriter<'_, E>,
 ) -> u8
     ensures done { result ≡ 0
-        → IsReported report.entry None (R.remaining reader.old) (R.remaining reader.new)
+        → IsReported report.now None (R.remaining reader.old) (R.remaining reader.new)
         (watched_contents O.contents out.old) (watched_contents O.contents out.new) }
     ensures failed { result ≡ 1
-        → IsEndedBy (λ fault. IsReported report.entry (Some fault)
+        → IsEndedBy (λ fault. IsReported report.now (Some fault)
         (R.remaining reader.old) (R.remaining reader.new)
         (watched_contents O.contents out.old) (watched_contents O.contents out.new)
-        ⊎ IsStoppedOnTheWay fault (IsReportCutShort report.entry) (IsReportBegun report.entry)
+        ⊎ IsStoppedOnTheWay fault (IsReportCutShort report.now) (IsReportBegun report.now)
         (R.remaining reader.old) (R.remaining reader.new)
         (watched_contents O.contents) out.old out.new
+        × (fault ≡ ScenarioFault.TooLong → text_if_too_long report.now ≡ None)
         × IsWriteRefused fault out.new)
         out.new E.contents err.old err.new }
     ensures ends { IsEnd result out.old out.new err.old err.new }
 {
-    match report {
-        Report::Check(check) => write_text(alloc, &check, reader, out, err),
-        Report::Explain(selection, run) => {
-            let chosen = Chosen { selection };
-            match run {
-                Run::Own => write_text(alloc, &chosen, reader, out, err),
-                Run::Seen => write_text(alloc, &AsSeen { what: chosen }, reader, out, err),
-            }
-        }
-        Report::Trace(form, run) => match run {
-            Run::Own => match stream_input(alloc, &form, reader, out) {
-                Ok(document) => {
-                    // As in `write_text`, the system frees it.
-                    mem::forget(document);
-                    DONE
-                }
-                Err(fault) => tell_reader(out, err, &fault),
-            },
-            Run::Seen => write_text(alloc, &AsSeen { what: form }, reader, out, err),
-        },
-        Report::Chrome(run) => match run {
-            Run::Own => write_text(alloc, &ChromeTrace, reader, out, err),
-            Run::Seen => write_text(alloc, &AsSeen { what: ChromeTrace }, reader, out, err),
-        },
-        Report::Count => write_text(alloc, &dsa_count::Totals, reader, out, err),
-        Report::Draw(drawing, run) => match run {
-            Run::Own => write_text(alloc, &drawing, reader, out, err),
-            Run::Seen => write_text(alloc, &AsSeen { what: drawing }, reader, out, err),
-        },
-        Report::Conform(conformance) => write_text(alloc, &conformance, reader, out, err),
-        Report::Expand => write_text(alloc, &dsa_expand::Expansion, reader, out, err),
+    match report.streamed() {
+        Some(form) => write_trace(alloc, form, reader, out, err),
+        None => write_text(alloc, report, report.text_if_too_long(), reader, out, err),
     }
 }
 
@@ -347,9 +385,9 @@ fn show<O: Write, E: Write>(
 /// Without words it reads a document from `reader` and writes its lines to `out`. With the word
 /// `threads` it runs workers in threads on one shared device, and writes their totals to `out`.
 /// With the word of a report it reads a document, and writes that to `out`, a trace row by row
-/// while the run is made, unless it shows the run that was seen. With the word `serve` it reads a
-/// document in one line and then a request in each line, and answers each before it reads on. Help
-/// goes to `out`.
+/// while the run is made, unless it shows the run that was seen, and a check also of a document
+/// that is too long. With the word `serve` it reads a document in one line and then a request in
+/// each line, and answers each before it reads on. Help goes to `out`.
 ///
 /// The status is 0 where all of it was written, and 1 on a fault, whose line goes to `err` unless
 /// nobody reads `out` any more. It is 2 on a usage error, and `err` gets what is to say of it.
@@ -413,6 +451,7 @@ pub fn answer_words<T: Threads + Wait + Sync, R: Read, O: Write, E: Write>(
         ⊎ IsStoppedOnTheWay fault (IsReportCut found) (IsReportLeft found)
         (R.remaining reader.old) (R.remaining reader.new)
         (watched_contents O.contents) out.old out.new
+        × (fault ≡ ScenarioFault.TooLong → found.0 ≢ codes "check")
         × IsWriteRefused fault out.new)
         out.new E.contents err.old err.new }
     ensures serve_failed { result ≡ 1
@@ -455,8 +494,8 @@ pub fn answer_words<T: Threads + Wait + Sync, R: Read, O: Write, E: Write>(
     ensures statuses { (result ≡ 0) ⊎ (result ≡ 1) ⊎ ((result ≡ 2) × (1 ≤ length words.now)) }
 {
     match read_words(alloc, words) {
-        Ok(Asked::Scenario) => write_text(alloc, &PlainRun, reader, out, err),
-        Ok(Asked::Report(report)) => write_report(alloc, report, reader, out, err),
+        Ok(Asked::Scenario) => write_text(alloc, &PlainRun, None, reader, out, err),
+        Ok(Asked::Report(report)) => write_report(alloc, &report, reader, out, err),
         Ok(Asked::Serve) => serve_input(alloc, reader, out, err),
         Ok(Asked::Threads(load)) => run_workers(rt, alloc, &load, out, err),
         Ok(Asked::HighThreshold(load)) => refuse_threshold(err, &load),
@@ -510,7 +549,8 @@ pub fn run_words<T: Threads + Wait + Sync, R: Read, O: Write, E: Write>(
         × (IsReportWritten found (Some fault) (R.remaining reader.old) (R.remaining reader.new)
         (O.contents out.old) (O.contents out.new)
         ⊎ IsStoppedOnTheWay fault (IsReportCut found) (IsReportLeft found)
-        (R.remaining reader.old) (R.remaining reader.new) O.contents out.old out.new) }
+        (R.remaining reader.old) (R.remaining reader.new) O.contents out.old out.new
+        × (fault ≡ ScenarioFault.TooLong → found.0 ≢ codes "check")) }
     ensures serve_failed { result ≡ 1
         → NameServe (map string_bytes words.now)
         → (fault : ScenarioFault)

@@ -25,9 +25,10 @@ use Rattle.dsa_explain_lines.specs.Parts.{part_of}
 use Rattle.dsa_conform.specs.declared.{way.Way.{Way}, told.{Told.{Told}, Line.{Line}}}
 use Rattle.dsa_conform.specs.Allowed.{IsAllowed, AreSeenAlike}
 use Rattle.dsa_conform.specs.Lines.{allowed_line}
-use Rattle.dsa_conform.specs.Run.{IsFollowedTo, IsDifference, IsAllowedLine, AreAllLines}
+use Rattle.dsa_conform.specs.Against.{fact_against}
+use Rattle.dsa_conform.specs.Run.{IsFact, IsFollowedTo, IsDifference, IsAllowedLine, AreAllLines}
 use Rattle.dsa_conform.specs.Seen.{Seen, shows}
-use Rattle.dsa_conform.specs.ToldLines.{IsTextTold, AreLinesTold, line_as}
+use Rattle.dsa_conform.specs.ToldLines.{IsTextTold, AreLinesTold, fact_told, line_as}
 use Rattle.dsa_conform.specs.Ways.{AreDevicesAlike, IsNamedEnd, RunFrom, queue_of_reply, queue_of_record, queues_taken}
 use Rattle.dsa_conform.specs.Ways.{IsOneWay, IsFork, IsAmong, Covers, IsTold, AllFollow, AllAreAmong, HasOne, AreNamedEnds}
 use Rattle.dsa_conform.specs.Ways.{IsReadTo, IsOn, IsFollowedOn, IsWayBy, IsAdded, AreAdded, IsGone, IsOneGone, AreGone}
@@ -496,6 +497,27 @@ all_lines caps capacity done here number old tolds lines named followed gone of_
   listed = of_told.listed;
 }
 
+-- the fact of the first device, where there is a line
+first_fact : (caps : Caps) (capacity : ℕ) (done : List (Action × Seen)) (here : Action × Seen) (number : ℕ)
+    (old : List Way) (tolds : List Told) (lines : List Line) → (line : Record × List ℕ) × In line (map line_as lines)
+    → AreLinesTold tolds lines → AreGone caps capacity done here number old [] tolds
+    → IsFact caps capacity done here (fact_told tolds)
+first_fact caps capacity done here number old [] lines line of_told gone =
+    let x = in_map line_as lines line.0 line.1 in
+    let t = of_told.each x.0 x.1 in
+    absurd t.1
+first_fact caps capacity done here number old (told ∷ tolds) lines line of_told gone =
+    let by = gone.told told (inl refl) in
+    let way = by.0 in
+    let h = by.2.0 in
+    let asked = event_of h.records here.0 in
+    let at = stands_at caps capacity done number way.device way.tickets.items h in
+    record {
+      records = h.records;
+      run = shown_run caps capacity done number way.device way.tickets.items h;
+      is = by.2.1.against ∙ ap (λ d. fact_against d asked here.1) (sym at);
+    }
+
 pub all_differ : (caps : Caps) (capacity : ℕ) (done : List (Action × Seen)) (here : Action × Seen) (number : ℕ)
     (old new : List Way) (tolds : List Told) (text : List ℕ) → IsNamedEnd here.0
     → AreFollowed caps capacity done number old → AreGone caps capacity done here number old new tolds → new ≡ []
@@ -522,6 +544,8 @@ all_differ caps capacity done here number old new tolds text named followed gone
       lines = map line_as told.lines;
       told = lines;
       any = (line.0, line.1);
+      fact = fact_told tolds;
+      against = first_fact caps capacity done here number old tolds told.lines (line.0, line.1) told.of_told gone;
       is = told.is;
     }
 

@@ -20,7 +20,7 @@ pub mod Steps
 pub mod OwnAnswers
 pub mod Walks
 pub mod Striking
-pub mod SameActions
+pub mod Bare
 pub mod Verdicts
 pub mod ToldAgain
 pub mod Chars
@@ -29,6 +29,8 @@ pub mod Printable
 pub mod PrintableAnswers
 pub mod PrintableReasons
 pub mod PrintableParts
+pub mod FactSteps
+pub mod PrintableFacts
 pub mod PrintableTexts
 pub mod Reports
 pub mod RowForms

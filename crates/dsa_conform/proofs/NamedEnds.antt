@@ -1,7 +1,8 @@
 -- Documents ask for the end of an entry by its name.
 use Rattle.dsa_scenario.specs.declared.actions.StepKind.TheVariants as kind
 use Rattle.std.proofs.Common.{◌≡◌, ℕ, zero, suc, List, [], ◌∷◌, Option, Some, None, ap}
-use Rattle.std.proofs.Common.{subst, take, Result, Ok, Err}
+use Rattle.std.proofs.Common.{subst, sym, take, Result, Ok, Err}
+use Rattle.std.specs.Prelude.{slice_get, option_and_then}
 use Rattle.std.proofs.lemmas.Option.{same_Some}
 use Rattle.serde_json.specs.Data.{Data}
 use Rattle.dsa_regs.specs.declared.{Command.{Command}, Fault.{Fault}}
@@ -10,7 +11,8 @@ use Rattle.dsa_scenario.specs.declared.actions.{Action.{Action}, StepKind.{StepK
 use Rattle.dsa_scenario.specs.Fields.{◌>>=◌, Row, Reading, reading_at, Maker, made_of}
 use Rattle.dsa_scenario.specs.Actions.{action_of_command, KindRow, kind_row, row_of_kind, asked_by, kind_of, action_by}
 use Rattle.dsa_scenario.specs.Actions.{action_of}
-use Rattle.dsa_conform.specs.{Seen.{Seen, seen_of, observation_of}, Run.{AreRead}, Ways.{AreNamedEnds, IsNamedEnd}}
+use Rattle.dsa_conform.specs.{Seen.{Seen, seen_of, observation_of}, Run.{AreRead}, Sights.{step_at}}
+use Rattle.dsa_conform.specs.Ways.{AreNamedEnds, IsNamedEnd}
 
 -- an action, if there is one, asks for no end but by a name
 unfoldable NamedIn : Option Action → Type 0
@@ -69,6 +71,13 @@ observed_named d o h = at (action_of d) (action_named d) h
         → IsNamedEnd o.0
     at None named is = absurd cc
     at (Some a) named is = with_seen a (seen_of d) (is_named a named) is
+
+pub step_named : (steps : List Data) (i : ℕ) (here : Action × Seen) → Some here ≡ step_at steps i → IsNamedEnd here.0
+step_named steps i here h = of (slice_get steps i) h
+  where
+    of : (d : Option Data) → Some here ≡ option_and_then observation_of d → IsNamedEnd here.0
+    of None is = absurd cc
+    of (Some d) is = observed_named d here (sym is)
 
 head-or : {X : Type 0} → X → List X → X
 head-or d [] = d

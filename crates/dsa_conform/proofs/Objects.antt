@@ -3,15 +3,15 @@ use Rattle.std.proofs.Common.{◌≡◌, ◌<◌, ℕ, ◌+◌, List, [], ◌∷
 use Rattle.std.proofs.Common.{Option, Some, None, refl, sym, ap, ◌∙◌, map, length}
 use Rattle.std.proofs.Common.{take, get_or, option_map}
 use Rattle.std.proofs.lemmas.List.{take_more, length-map, map-append}
-use Rattle.std.proofs.lemmas.Option.{slice_get-map, slice_get_read, get_or_from_slice_get, same_Some}
+use Rattle.std.proofs.lemmas.Option.{slice_get-map, slice_get_read, slice_get_within, get_or_from_slice_get, same_Some}
 use Rattle.std.proofs.Math.ListN.{get_or-map}
-use Rattle.std.specs.Prelude.{IsUtf8, slice_get, is_none, false}
+use Rattle.std.specs.Prelude.{IsUtf8, slice_get, is_none, false, option_and_then}
 use Rattle.serde_json.specs.{View.{view}, Data.{Data, Items}, Read.{read}, declared.value.Value.{Value}}
 use Rattle.dsa_regs.specs.declared.Caps.{Caps}
 use Rattle.dsa_scenario.specs.Document.{head_of, list_of_items}
 use Rattle.dsa_scenario.proofs.Heads.{head_by}
 use Rattle.dsa_scenario.specs.declared.actions.Action.{Action}
-use Rattle.dsa_conform.specs.{Seen.{Seen, observation_of}, Run.{AreRead, IsUnread, IsUnreadAt}}
+use Rattle.dsa_conform.specs.{Seen.{Seen, observation_of}, Run.{AreRead, IsUnread, IsUnreadAt}, Sights.{step_at}}
 
 -- the item is that of the list, as JSON
 item_at : (vs : List Value) (i : ℕ) (v : Value) → i < length vs → v ≡ get_or vs i v
@@ -29,41 +29,46 @@ read_more vs i v here done inside is reads h =
     rw (take_more (map view vs) i (view v) inside', map-append, map-append, h, item, reads) refl
 
 -- there are as many observations as step objects
+pub as_many_read : (steps : List Data) (observed : List (Action × Seen)) → AreRead steps observed
+    → length observed ≡ length steps
+as_many_read steps observed h =
+    sym (length-map observed (λ (o : Action × Seen). Some o)) ∙ ap length (sym h) ∙ length-map steps observation_of
+
 pub count_read : (vs : List Value) (observed : List (Action × Seen)) → AreRead (map view vs) observed
     → length observed ≡ length vs
-count_read vs observed h =
-    sym (length-map observed (λ (o : Action × Seen). Some o)) ∙ ap length (sym h) ∙ length-map (map view vs)
-    observation_of
-    ∙ length-map vs view
+count_read vs observed h = as_many_read (map view vs) observed h ∙ length-map vs view
 
--- what is read of an item
-pub record IsReadAt (observed : List (Action × Seen)) (i : ℕ) (v : Value) : Type 0 where
-  pub here : Action × Seen
-  pub reads : observation_of (view v) ≡ Some here
+-- what is read of an item is what is read at its place
+pub at_item : (vs : List Value) (i : ℕ) (v : Value) (o : Option (Action × Seen)) → i < length vs → v ≡ get_or vs i v
+    → o ≡ observation_of (view v) → o ≡ step_at (map view vs) i
+at_item vs i v o inside is reads =
+    reads ∙ ap (option_and_then observation_of) (sym (item_at vs i v inside is))
+
+-- what is read at a place
+pub record IsReadAt (observed : List (Action × Seen)) (i : ℕ) (here : Action × Seen) : Type 0 where
   pub at : slice_get observed i ≡ Some here
   pub more : take (i + 1) observed ≡ take i observed ++ here ∷ []
 
-pub read_at : (vs : List Value) (observed : List (Action × Seen)) (i : ℕ) (v : Value) → AreRead (map view vs) observed
-    → i < length vs → v ≡ get_or vs i v → IsReadAt observed i v
-read_at vs observed i v h inside is = found (slice_get observed i) refl (sym left ∙ ap (λ xs. slice_get xs i) h ∙ right)
-  where
-    left : slice_get (map observation_of (map view vs)) i ≡ Some (observation_of (view v))
-    left = slice_get-map observation_of (map view vs) i ∙ ap (option_map observation_of) (item_at vs i v inside is)
-
-    right : slice_get (map (λ (o : Action × Seen). Some o) observed) i
-        ≡ option_map (λ (o : Action × Seen). Some o) (slice_get observed i)
-    right = slice_get-map (λ (o : Action × Seen). Some o) observed i
-
-    found : (o : Option (Action × Seen)) → slice_get observed i ≡ o
-        → Some (observation_of (view v)) ≡ option_map (λ (o : Action × Seen). Some o) o → IsReadAt observed i v
-    found None at same = absurd cc
-    found (Some here) at same = record {
-      here = here;
-      reads = same_Some (observation_of (view v)) (Some here) same;
+pub read_at : (steps : List Data) (observed : List (Action × Seen)) (i : ℕ) (here : Action × Seen)
+    → AreRead steps observed → Some here ≡ step_at steps i → IsReadAt observed i here
+read_at steps observed i here h reads =
+    let at : slice_get observed i ≡ Some here = found (slice_get steps i) (slice_get observed i) (sym reads) same in
+    record {
       at = at;
-      more = take_more observed i here (rw (count_read vs observed h) inside)
+      more = take_more observed i here (slice_get_within observed i here at)
           ∙ ap (λ o. take i observed ++ o ∷ []) (get_or_from_slice_get observed i here here at);
     }
+  where
+    same : option_map observation_of (slice_get steps i)
+        ≡ option_map (λ (o : Action × Seen). Some o) (slice_get observed i)
+    same = sym (slice_get-map observation_of steps i) ∙ ap (λ xs. slice_get xs i) h
+        ∙ slice_get-map (λ (o : Action × Seen). Some o) observed i
+
+    found : (d : Option Data) (o : Option (Action × Seen)) → option_and_then observation_of d ≡ Some here
+        → option_map observation_of d ≡ option_map (λ (o : Action × Seen). Some o) o → o ≡ Some here
+    found None o is same = absurd cc
+    found (Some d) None is same = absurd cc
+    found (Some d) (Some o) is same = sym (same_Some (observation_of d) (Some o) same) ∙ is
 
 -- a document whose object i is not read, by what its text reads as
 pub unread : (text : List ℕ) (d : Data) (caps : Caps) (capacity : ℕ) (items : Items) (i : ℕ) → IsUtf8 text

@@ -12,7 +12,7 @@ use Rattle.dsa_scenario.specs.{Run.{event_of}, Steps.{standing}}
 use Rattle.dsa_conform.specs.{Allowed.{IsAllowed}, AsSeen.{IsShownUpTo, IsStepTried}}
 use Rattle.dsa_conform.specs.Run.{AreRead, IsFollowedTo, IsShownRun}
 use Rattle.dsa_conform.specs.Seen.{Seen, observation_of, shows}
-use Rattle.dsa_conform.proofs.{Objects.{count_read, read_at}, Steps.{come_on, parsed}, Walks.{followed_more, reached}}
+use Rattle.dsa_conform.proofs.{Objects.{at_item, count_read, read_at}, Steps.{come_on}, Walks.{followed_more, reached}}
 
 -- the answer shows what was seen: the device has come by this step too
 pub alone_on : (vs : List Value) (observed : List (Action × Seen)) (i : ℕ) (v : Value) (here : Action × Seen)
@@ -22,7 +22,8 @@ pub alone_on : (vs : List Value) (observed : List (Action × Seen)) (i : ℕ) (v
     → IsFollowedTo caps capacity (take i observed) i now tickets
     → IsFollowedTo caps capacity (take (i + 1) observed) (i + 1) new more
 alone_on vs observed i v here shown caps capacity now new tickets more read inside is reads is_shown tried h =
-    come_on vs observed i v here caps capacity now new tickets more read inside is reads
+    come_on (map view vs) observed i here caps capacity now new tickets more read
+    (at_item vs i v (Some here) inside is reads)
     (λ caps capacity done number. followed_more caps capacity now new done here number tickets more tried.entry
     tried.answers tried.leads tried.noted (sym tried.shown ∙ is_shown))
     h
@@ -35,8 +36,7 @@ pub alone_to : (vs : List Value) (observed : List (Action × Seen)) (i : ℕ) (v
     → IsFollowedTo caps capacity (take i observed) i now tickets
     → IsShownUpTo caps capacity observed i
 alone_to vs observed i v here shown caps capacity now new tickets more read inside is reads fails tried h =
-    let at = read_at vs observed i v read inside is in
-    let same = parsed observed i v here at reads in
+    let at = read_at (map view vs) observed i here read (at_item vs i v (Some here) inside is reads) in
     let to = reached caps capacity now (take i observed) i tickets h in
     let allowed : IsAllowed now (event_of to.records here.0) tried.entry =
     record { answers = tried.answers to.records to.table; after = new; leads = tried.leads } in
@@ -46,7 +46,7 @@ alone_to vs observed i v here shown caps capacity now new tickets more read insi
       next = λ other there.
           subst (λ (o : Action × Seen). (entry : Record)
           × IsAllowed (standing caps capacity to.records) (event_of to.records o.0) entry × (shows o.1 entry ≡ false))
-          (sym same ∙ same_Some at.here other (sym at.at ∙ there)) (
+          (same_Some here other (sym at.at ∙ there)) (
             tried.entry,
             subst (λ d. IsAllowed d (event_of to.records here.0) tried.entry) (sym to.stands) allowed,
             sym tried.shown ∙ fails,

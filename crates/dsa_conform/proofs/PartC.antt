@@ -7,7 +7,7 @@ use Rattle.dsa_base.specs.Lists.{In}
 use Rattle.dsa_book.specs.declared.event.Step.{Step}
 use Rattle.dsa_scenario.specs.declared.run.Record.{Record}
 use Rattle.dsa_conform.specs.declared.told.{Line.{Line}, Told.{Told}}
-use Rattle.dsa_conform.specs.Lines.{allowed_line, asked_step_line, seen_line, difference_text}
+use Rattle.dsa_conform.specs.Lines.{against_line, allowed_line, asked_step_line, seen_line, difference_text}
 use Rattle.dsa_conform.specs.Seen.{Seen}
 use Rattle.dsa_conform.specs.ToldLines.{HasText, IsLinePlaced, AddsLines, line_as}
 use Rattle.dsa_conform.specs.Ways.{queues_taken}
@@ -57,22 +57,23 @@ texts [] = refl
 texts (line ∷ lines) = ap (λ l. string_bytes line.text ++ l) (texts lines)
 
 -- the text of lines, of which this is the first
-pub text_told : (number : ℕ) (seen : Seen) (lines : List Line) (first : Line) (none step line text : List ℕ)
-    → slice_get lines 0 ≡ Some first → none ≡ [] → step ≡ none ++ asked_step_line number first.entry
-    → line ≡ step ++ seen_line seen → text ≡ line ++ flat_map (λ (l : Line). string_bytes l.text) lines
-    → text ≡ difference_text number seen (map line_as lines)
-text_told number seen [] first none step line text at empty a b c = absurd cc
-text_told number seen (l ∷ ls) first none step line text at empty a b c =
+pub text_told : (number : ℕ) (seen : Seen) (fact : List ℕ) (lines : List Line) (first : Line)
+    (none step line against text : List ℕ) → slice_get lines 0 ≡ Some first → none ≡ []
+    → step ≡ none ++ asked_step_line number first.entry → line ≡ step ++ seen_line seen
+    → against ≡ line ++ against_line fact → text ≡ against ++ flat_map (λ (l : Line). string_bytes l.text) lines
+    → text ≡ difference_text number seen fact (map line_as lines)
+text_told number seen fact [] first none step line against text at empty a b f c = absurd cc
+text_told number seen fact (l ∷ ls) first none step line against text at empty a b f c =
     let same : l ≡ first = same_Some l first at in
     let asked : List ℕ = asked_step_line number l.entry in
     let begun : step ≡ asked = a ∙ ap (λ x. x ++ asked_step_line number first.entry) empty
     ∙ ap (λ (x : Line). asked_step_line number x.entry) (sym same) in
     c ∙ ap (λ x. x ++ flat_map (λ (y : Line). string_bytes y.text) (l ∷ ls))
-    (b ∙ ap (λ x. x ++ seen_line seen) begun)
-    ∙ ap (λ x. asked ++ seen_line seen ++ x) (texts (l ∷ ls))
+    (f ∙ ap (λ x. x ++ against_line fact) (b ∙ ap (λ x. x ++ seen_line seen) begun))
+    ∙ ap (λ x. asked ++ seen_line seen ++ against_line fact ++ x) (texts (l ∷ ls))
 
 -- of none there is no text
-pub text_of_none : (number : ℕ) (seen : Seen) (lines : List Line) (text : List ℕ) → None ≡ slice_get lines 0
-    → text ≡ [] → text ≡ difference_text number seen (map line_as lines)
-text_of_none number seen [] text at is = is
-text_of_none number seen (l ∷ ls) text at is = absurd cc
+pub text_of_none : (number : ℕ) (seen : Seen) (fact : List ℕ) (lines : List Line) (text : List ℕ)
+    → None ≡ slice_get lines 0 → text ≡ [] → text ≡ difference_text number seen fact (map line_as lines)
+text_of_none number seen fact [] text at is = is
+text_of_none number seen fact (l ∷ ls) text at is = absurd cc

@@ -45,7 +45,7 @@ told sentence (Some r) each = each r
 keeping : (w : Work) (g : ℕ) → Shown (keeping_part w g)
 keeping w g = listed (kept_part w g) (numbers_below w.setup.caps.groups) (λ other. search (chosen, kept) depth 8)
 
-queue_kept : (w : Work) (r : QueueReason) → Shown (queue_keeping w r)
+pub queue_kept : (w : Work) (r : QueueReason) → Shown (queue_keeping w r)
 queue_kept w queue.Empty = refl
 queue_kept w (queue.NoSlot used slots) = refl
 queue_kept w (queue.NoBuffers want) = keeping w want.group

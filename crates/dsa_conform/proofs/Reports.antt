@@ -15,7 +15,7 @@ use Rattle.dsa_event_text.specs.Text.{count_text}
 use Rattle.dsa_explain_lines.specs.{Lines.{asked_words, is_taken, shown}, Parts.{part_of}}
 use Rattle.dsa_conform.specs.Quoted.{seen_text}
 use Rattle.dsa_conform.specs.Seen.{Seen}
-use Rattle.dsa_conform.specs.Lines.{conforms_text, flag_text, seen_words, seen_line, seen_count, asked_step_line}
+use Rattle.dsa_conform.specs.Lines.{conforms_text, flag_text, against_line, seen_words, seen_line, seen_count, asked_step_line}
 use Rattle.dsa_conform.specs.Lines.{allowed_line, difference_text}
 use Rattle.dsa_conform.specs.Run.{IsConforming, IsDifference, IsAllowedLine, IsVerdict, IsConformance}
 use Rattle.dsa_conform.specs.Every.{AreDifferences, AreDiffering, IsConformanceOf, IsFullVerdict, differs_text}
@@ -24,6 +24,7 @@ use Rattle.dsa_conform.specs.Forms.{IsLineWith, AreLinesWith, words_of_differenc
 use Rattle.dsa_conform.specs.Forms.{IsReport}
 use Rattle.dsa_conform.proofs.Printable.{Shown, joined, chosen, parts}
 use Rattle.dsa_conform.proofs.{PrintableAnswers.{asked, answer_words}, PrintableParts.{reason}}
+use Rattle.dsa_conform.proofs.PrintableFacts.{fact_shown}
 use Rattle.dsa_conform.proofs.PrintableTexts.{text_shown}
 
 -- ---- one line
@@ -46,6 +47,9 @@ seen_is_line seen = record {
   is = refl;
   printable = words seen.answer seen.zf;
 }
+
+fact_is_line : (fact : List ℕ) → Shown fact → IsLineWith (codes "against: ") (against_line fact)
+fact_is_line fact printed = record { rest = fact; is = refl; printable = printed }
 
 step_is_line : (n : ℕ) (entry : Record) → IsLineWith (codes "step ") (asked_step_line n entry)
 step_is_line n entry = record {
@@ -82,27 +86,30 @@ lines_allowed [] each = refl
 lines_allowed (line ∷ lines) each =
     (line.1, flat_map (λ l. l.1) lines, each line (inl refl), lines_allowed lines (λ l i. each l (inr i)), refl)
 
-lines_of_difference : (n : ℕ) (seen : Seen) (lines : List (Record × List ℕ)) (text : List ℕ)
-    → ((line : Record × List ℕ) → In line lines → IsLineWith (codes "allowed: ") line.1)
-    → (line : Record × List ℕ) × In line lines → text ≡ difference_text n seen lines
+lines_of_difference : (n : ℕ) (seen : Seen) (fact : List ℕ) (lines : List (Record × List ℕ)) (text : List ℕ)
+    → Shown fact → ((line : Record × List ℕ) → In line lines → IsLineWith (codes "allowed: ") line.1)
+    → (line : Record × List ℕ) × In line lines → text ≡ difference_text n seen fact lines
     → (allowed : ℕ) × AreLinesWith (words_of_difference (suc allowed)) text
-lines_of_difference n seen [] text each any is = absurd any.1
-lines_of_difference n seen (first ∷ lines) text each any is = (
-  length lines,
-  (
-    asked_step_line n first.0,
-    seen_line seen ++ flat_map (λ l. l.1) (first ∷ lines),
-    step_is_line n first.0,
-    (
-      seen_line seen,
-      flat_map (λ l. l.1) (first ∷ lines),
-      seen_is_line seen,
-      lines_allowed (first ∷ lines) each,
-      refl,
-    ),
-    is ∙ append_assoc (asked_step_line n first.0) (seen_line seen) (flat_map (λ l. l.1) (first ∷ lines)),
-  ),
-)
+lines_of_difference n seen fact [] text printed each any is = absurd any.1
+lines_of_difference n seen fact (first ∷ lines) text printed each any is =
+    let allowed = flat_map (λ (l : Record × List ℕ). l.1) (first ∷ lines) in
+    let asked = asked_step_line n first.0 in (
+      length lines,
+      (
+        asked,
+        seen_line seen ++ (against_line fact ++ allowed),
+        step_is_line n first.0,
+        (
+          seen_line seen,
+          against_line fact ++ allowed,
+          seen_is_line seen,
+          (against_line fact, allowed, fact_is_line fact printed, lines_allowed (first ∷ lines) each, refl),
+          refl,
+        ),
+        is ∙ append_assoc (asked ++ seen_line seen) (against_line fact) allowed
+            ∙ append_assoc asked (seen_line seen) (against_line fact ++ allowed),
+      ),
+    )
 
 line_allowed : (caps : Caps) (capacity : ℕ) (before : List (Action × Seen)) (action : Action) (entry : Record)
     (line : List ℕ) → IsAllowedLine caps capacity before action entry line → IsLineWith (codes "allowed: ") line
@@ -117,7 +124,9 @@ differing_report : (caps : Caps) (capacity : ℕ) (before : List (Action × Seen
     (text : List ℕ) → IsDifference caps capacity before here n text
     → (allowed : ℕ) × AreLinesWith (words_of_difference (suc allowed)) text
 differing_report caps capacity before here n text h =
-    lines_of_difference n here.1 h.lines text
+    let at = standing caps capacity h.against.records in
+    lines_of_difference n here.1 h.fact h.lines text
+    (subst Shown (sym h.against.is) (fact_shown at (event_of h.against.records here.0) here.1))
     (λ line i. line_allowed caps capacity before here.0 line.0 line.1 (h.told.each line i)) h.any h.is
 
 conforming_report : (caps : Caps) (capacity : ℕ) (steps : List Data) (text : List ℕ)

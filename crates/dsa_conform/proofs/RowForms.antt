@@ -88,18 +88,28 @@ module _ (allowed : ℕ) (text : List ℕ) (h : AreLinesWith (words_of_differenc
   abbrev all_allowed : List (List ℕ)
   all_allowed = replicate (suc allowed) (codes "allowed: ")
 
-  after_step : AreLinesWith (codes "seen: " ∷ all_allowed) (after_feed text)
-  after_step = next_lines (codes "step ") (codes "seen: " ∷ all_allowed) text h
+  abbrev all_told : List (List ℕ)
+  all_told = codes "against: " ∷ all_allowed
 
-  after_seen : AreLinesWith all_allowed (after_feed (after_feed text))
-  after_seen = next_lines (codes "seen: ") all_allowed (after_feed text) after_step
+  after_step : AreLinesWith (codes "seen: " ∷ all_told) (after_feed text)
+  after_step = next_lines (codes "step ") (codes "seen: " ∷ all_told) text h
+
+  after_seen : AreLinesWith all_told (after_feed (after_feed text))
+  after_seen = next_lines (codes "seen: ") all_told (after_feed text) after_step
+
+  after_fact : AreLinesWith all_allowed (after_feed (after_feed (after_feed text)))
+  after_fact = next_lines (codes "against: ") all_allowed (after_feed (after_feed text)) after_seen
 
   pub word_of_step : take 5 text ≡ codes "step "
-  word_of_step = word_of_lines (codes "step ") (codes "seen: " ∷ all_allowed) text h
+  word_of_step = word_of_lines (codes "step ") (codes "seen: " ∷ all_told) text h
 
   pub word_of_seen : take 6 (after_feed text) ≡ codes "seen: "
-  word_of_seen = word_of_lines (codes "seen: ") all_allowed (after_feed text) after_step
+  word_of_seen = word_of_lines (codes "seen: ") all_told (after_feed text) after_step
 
-  pub word_of_allowed : take 9 (after_feed (after_feed text)) ≡ codes "allowed: "
+  pub word_of_against : take 9 (after_feed (after_feed text)) ≡ codes "against: "
+  word_of_against = word_of_lines (codes "against: ") all_allowed (after_feed (after_feed text)) after_seen
+
+  pub word_of_allowed : take 9 (after_feed (after_feed (after_feed text))) ≡ codes "allowed: "
   word_of_allowed =
-      word_of_lines (codes "allowed: ") (replicate allowed (codes "allowed: ")) (after_feed (after_feed text)) after_seen
+      word_of_lines (codes "allowed: ") (replicate allowed (codes "allowed: "))
+      (after_feed (after_feed (after_feed text))) after_fact

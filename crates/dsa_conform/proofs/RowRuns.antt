@@ -14,7 +14,7 @@ use Rattle.dsa_scenario.specs.declared.actions.Action.{Action, TheVariants.{Ask,
 use Rattle.dsa_scenario.specs.declared.run.Record.{Record, TheVariants.{Stepped, Refused}}
 use Rattle.dsa_scenario.specs.{Run.{event_of, AreOf}, Steps.{standing}, Worked.{smallest_caps, stepped}}
 use Rattle.dsa_explain_lines.specs.Parts.{part_of}
-use Rattle.dsa_conform.specs.Allowed.{IsAllowed}
+use Rattle.dsa_conform.specs.{Against.{fact_against}, Allowed.{IsAllowed}}
 use Rattle.dsa_conform.specs.Lines.{allowed_line, difference_text}
 use Rattle.dsa_conform.specs.Run.{IsShownRun, IsDifference, IsAllowedLine, IsReason, AreAllLines}
 use Rattle.dsa_conform.specs.{Seen.{Seen, nothing_seen, shows, AreShown}, Ways.{RunFrom}, Worked.{answered, smallest_device_at_first}}
@@ -79,7 +79,7 @@ pub differs : (caps : Caps) (capacity : ℕ) (before : List (Action × Seen)) (h
     → LeadTo caps capacity before here.0 now asked → IsAllowed now asked entry
     → ((other : Record) → IsAllowed now asked other → entry ≡ other) → shows here.1 entry ≡ false
     → IsDifference caps capacity before here number
-    (difference_text number here.1 ((entry, allowed_line (part_of now asked) entry) ∷ []))
+    (difference_text number here.1 (fact_against now asked here.1) ((entry, allowed_line (part_of now asked) entry) ∷ []))
 differs caps capacity before here number now asked entry some i run lead may only fails = record {
   some = some;
   run = run;
@@ -95,6 +95,15 @@ differs caps capacity before here number now asked entry some i run lead may onl
   lines = (entry, allowed_line (part_of now asked) entry) ∷ [];
   told = all_lines caps capacity before here.0 now asked entry some i run lead may only;
   any = ((entry, allowed_line (part_of now asked) entry), inl refl);
+  fact = fact_against now asked here.1;
+  against =
+      let to = lead some (standing caps capacity some) (run_of caps capacity before some i run) in
+      record {
+        records = some;
+        run = run;
+        is = ap (λ q. fact_against now q here.1) (sym to.1)
+            ∙ ap (λ d. fact_against d (event_of some here.0) here.1) (sym to.0);
+      };
   is = refl;
 }
 
@@ -131,6 +140,7 @@ word_leads (Refused f ∷ q ∷ rs) after h = absurd h.2
 
 pub poll_differs : IsDifference smallest_caps 9 [] (Ask event.Poll, answered (codes "active")) 0
     (difference_text 0 (answered (codes "active"))
+    (fact_against smallest_device_at_first (Ok event.Poll) (answered (codes "active")))
     ((nothing, allowed_line (part_of smallest_device_at_first (Ok event.Poll)) nothing) ∷ []))
 poll_differs =
     differs smallest_caps 9 [] (Ask event.Poll, answered (codes "active")) 0 smallest_device_at_first (Ok event.Poll)

@@ -1,14 +1,13 @@
 -- The steps of a document, followed one after the other.
-use Rattle.std.proofs.Common.{◌≡◌, ◌<◌, ◌≤◌, ℕ, ◌+◌, List, [], ◌∷◌, ◌++◌}
+use Rattle.std.proofs.Common.{◌≡◌, ◌<◌, ◌≤◌, ℕ, zero, suc, ◌+◌, List, [], ◌∷◌, ◌++◌}
 use Rattle.std.proofs.Common.{Option, Some, None, refl, sym, ap, ◌∙◌, subst, map}
 use Rattle.std.proofs.Common.{take, length, cond, get_or, arith}
-use Rattle.std.proofs.lemmas.{Option.{same_Some}, List.{take_all, Sums.{sum_by_push}}}
-use Rattle.serde_json.specs.{View.{view}, declared.value.Value.{Value}}
+use Rattle.std.proofs.lemmas.List.{length-map, take_all, Sums.{sum_by_push}}
 use Rattle.dsa_regs.specs.declared.Caps.{Caps}
 use Rattle.dsa_book.specs.declared.answer.Ticket.{Ticket}
 use Rattle.dsa_device.specs.Running.{Running}
 use Rattle.std.proofs.Common.{Bool, true, false}
-use Rattle.serde_json.specs.Data.{Data}
+use Rattle.serde_json.specs.{Data.{Data}, View.{view}, declared.value.Value.{Value}}
 use Rattle.dsa_scenario.specs.declared.{faults.ScenarioFault.{ScenarioFault}}
 use Rattle.dsa_scenario.specs.declared.faults.ScenarioFault.TheVariants as fault
 use Rattle.dsa_scenario.specs.{Document.{HasHead, IsOpenable}}
@@ -16,94 +15,96 @@ use Rattle.dsa_conform.specs.declared.way.Way.{Way}
 use Rattle.dsa_scenario.specs.declared.actions.Action.{Action}
 use Rattle.dsa_conform.specs.Lines.{conforms_text, seen_count}
 use Rattle.dsa_conform.specs.Run.{AreRead, IsConforming, IsDifference, IsDiffering, IsFollowedTo, IsToldOf}
-use Rattle.dsa_conform.specs.Seen.{Seen, is_seen, observation_of}
+use Rattle.dsa_conform.specs.{Seen.{Seen, is_seen, observation_of}, Sights.{step_at}}
 use Rattle.dsa_conform.specs.Ways.{AreFollowed, IsReadTo}
-use Rattle.dsa_conform.proofs.{Objects.{IsReadAt, read_at, count_read}, Walks.{reached}}
-use Rattle.dsa_conform.proofs.NamedEnds.{observed_named, all_named, take_named}
-
--- what is read of an item is what was parsed of it
-pub parsed : (observed : List (Action × Seen)) (i : ℕ) (v : Value) (here : Action × Seen) (at : IsReadAt observed i v)
-    → Some here ≡ observation_of (view v) → at.here ≡ here
-parsed observed i v here at h = same_Some at.here here (sym at.reads ∙ sym h)
+use Rattle.dsa_conform.proofs.{Objects.{at_item, read_at, as_many_read}, Walks.{reached}}
+use Rattle.dsa_conform.proofs.NamedEnds.{step_named, all_named, take_named}
 
 -- a device that has come by one step more of those that are read
-pub come_on : (vs : List Value) (observed : List (Action × Seen)) (i : ℕ) (v : Value) (here : Action × Seen) (caps : Caps)
-    (capacity : ℕ) (now new : Running) (tickets more : List Ticket) → AreRead (map view vs) observed → i < length vs
-    → v ≡ get_or vs i v → Some here ≡ observation_of (view v)
+pub come_on : (steps : List Data) (observed : List (Action × Seen)) (i : ℕ) (here : Action × Seen) (caps : Caps)
+    (capacity : ℕ) (now new : Running) (tickets more : List Ticket) → AreRead steps observed
+    → Some here ≡ step_at steps i
     → ((caps : Caps) → (capacity : ℕ) → (done : List (Action × Seen)) → (number : ℕ)
     → IsFollowedTo caps capacity done number now tickets
     → IsFollowedTo caps capacity (done ++ here ∷ []) (number + 1) new more)
     → IsFollowedTo caps capacity (take i observed) i now tickets
     → IsFollowedTo caps capacity (take (i + 1) observed) (i + 1) new more
-come_on vs observed i v here caps capacity now new tickets more read inside is reads goes h =
-    let at = read_at vs observed i v read inside is in
-    subst (λ done. IsFollowedTo caps capacity done (i + 1) new more)
-    (sym (at.more ∙ ap (λ o. take i observed ++ o ∷ []) (parsed observed i v here at reads)))
+come_on steps observed i here caps capacity now new tickets more read reads goes h =
+    let at = read_at steps observed i here read reads in
+    subst (λ done. IsFollowedTo caps capacity done (i + 1) new more) (sym at.more)
     (goes caps capacity (take i observed) i h)
 
 -- what is read at a place
-pub read_to : (vs : List Value) (observed : List (Action × Seen)) (i : ℕ) (v : Value) (here : Action × Seen)
-    → AreRead (map view vs) observed → i < length vs → v ≡ get_or vs i v → Some here ≡ observation_of (view v)
-    → IsReadTo (map view vs) observed i here
-read_to vs observed i v here read inside is reads =
-    let at = read_at vs observed i v read inside is in
-    record {
-      read = read;
-      more = at.more ∙ ap (λ o. take i observed ++ o ∷ []) (parsed observed i v here at reads);
-      named = take_named i observed (all_named (map view vs) observed read);
-      is_named = observed_named (view v) here (sym reads);
-    }
+pub read_to : (steps : List Data) (observed : List (Action × Seen)) (i : ℕ) (here : Action × Seen)
+    → AreRead steps observed → Some here ≡ step_at steps i → IsReadTo steps observed i here
+read_to steps observed i here read reads = record {
+  read = read;
+  more = (read_at steps observed i here read reads).more;
+  named = take_named i observed (all_named steps observed read);
+  is_named = step_named steps i here reads;
+}
 
 -- the same devices, one step later
-pub stepped_to : (vs : List Value) (observed : List (Action × Seen)) (i : ℕ) (here : Action × Seen) (caps : Caps)
-    (capacity : ℕ) (ways : List Way) → IsReadTo (map view vs) observed i here
+pub stepped_to : (steps : List Data) (observed : List (Action × Seen)) (i : ℕ) (here : Action × Seen) (caps : Caps)
+    (capacity : ℕ) (ways : List Way) → IsReadTo steps observed i here
     → AreFollowed caps capacity (take i observed ++ here ∷ []) (i + 1) ways
     → AreFollowed caps capacity (take (i + 1) observed) (i + 1) ways
-stepped_to vs observed i here caps capacity ways read h =
+stepped_to steps observed i here caps capacity ways read h =
     subst (λ done. AreFollowed caps capacity done (i + 1) ways) (sym read.more) h
 
 -- the step that differs
-pub differs_at : (vs : List Value) (observed : List (Action × Seen)) (i : ℕ) (v : Value) (here : Action × Seen)
-    (caps : Caps) (capacity : ℕ) (text : List ℕ) → AreRead (map view vs) observed → i < length vs → v ≡ get_or vs i v
-    → Some here ≡ observation_of (view v) → IsDifference caps capacity (take i observed) here i text
-    → IsDiffering caps capacity (map view vs) i text
-differs_at vs observed i v here caps capacity text read inside is reads h =
-    let at = read_at vs observed i v read inside is in
-    record {
-      observed = observed;
-      read = read;
-      here = here;
-      at = at.at ∙ ap (λ o. Some o) (parsed observed i v here at reads);
-      differs = h;
-    }
+pub differs_at : (steps : List Data) (observed : List (Action × Seen)) (i : ℕ) (here : Action × Seen) (caps : Caps)
+    (capacity : ℕ) (text : List ℕ) → AreRead steps observed → Some here ≡ step_at steps i
+    → IsDifference caps capacity (take i observed) here i text → IsDiffering caps capacity steps i text
+differs_at steps observed i here caps capacity text read reads h = record {
+  observed = observed;
+  read = read;
+  here = here;
+  at = (read_at steps observed i here read reads).at;
+  differs = h;
+}
 
 -- one observation more is counted
-pub count_more : (vs : List Value) (observed : List (Action × Seen)) (i : ℕ) (v : Value) (here : Action × Seen)
-    (answers more : ℕ) → AreRead (map view vs) observed → i < length vs → v ≡ get_or vs i v
-    → Some here ≡ observation_of (view v) → more ≡ answers + cond (is_seen here.1) 1 0
+pub count_more : (steps : List Data) (observed : List (Action × Seen)) (i : ℕ) (here : Action × Seen)
+    (answers more : ℕ) → AreRead steps observed → Some here ≡ step_at steps i
+    → more ≡ answers + cond (is_seen here.1) 1 0
     → answers ≡ seen_count (take i observed) → more ≡ seen_count (take (i + 1) observed)
-count_more vs observed i v here answers more read inside is reads adds h =
-    let at = read_at vs observed i v read inside is in
-    let same = parsed observed i v here at reads in
+count_more steps observed i here answers more read reads adds h =
+    let at = read_at steps observed i here read reads in
     adds ∙ ap (λ n. n + cond (is_seen here.1) 1 0) h
     ∙ sym (sum_by_push (λ (o : Action × Seen). cond (is_seen o.1) 1 0) (take i observed) here)
-    ∙ ap seen_count (sym (at.more ∙ ap (λ o. take i observed ++ o ∷ []) same))
+    ∙ ap seen_count (sym at.more)
 
--- an item that is read is one
-pub reads_item : (vs : List Value) (observed : List (Action × Seen)) (i : ℕ) (v : Value) {X : Type 0}
+-- a step that is read is one
+never_unread : (steps : List Data) (observed : List (Action × Seen)) (i : ℕ) → AreRead steps observed
+    → i < length steps → None ≡ step_at steps i → ⊥
+never_unread [] observed i read inside none = absurd (omega (arith, inside))
+never_unread (d ∷ ds) [] i read inside none = absurd cc
+never_unread (d ∷ ds) (o ∷ os) zero read inside none =
+    let first : observation_of d ≡ Some o = cc in
+    let bad : None ≡ Some o = none ∙ first in absurd cc
+never_unread (d ∷ ds) (o ∷ os) (suc i) read inside none =
+    let rest : map observation_of ds ≡ map Some os = cc in
+    never_unread ds os i rest (omega (arith, inside)) none
+
+pub reads_item : (steps : List Data) (observed : List (Action × Seen)) (i : ℕ) {X : Type 0} → AreRead steps observed
+    → i < length steps → None ≡ step_at steps i → X
+reads_item steps observed i read inside none = absurd (never_unread steps observed i read inside none)
+
+pub reads_value : (vs : List Value) (observed : List (Action × Seen)) (i : ℕ) (v : Value) {X : Type 0}
     → AreRead (map view vs) observed → i < length vs → v ≡ get_or vs i v → None ≡ observation_of (view v) → X
-reads_item vs observed i v read inside is none =
-    let at = read_at vs observed i v read inside is in
-    let bad : None ≡ Some at.here = none ∙ at.reads in absurd cc
+reads_value vs observed i v read inside is none =
+    reads_item (map view vs) observed i read (subst (λ n. i < n) (sym (length-map vs view)) inside)
+    (at_item vs i v None inside is none)
 
 -- all of them were followed
-pub conforms : (vs : List Value) (observed : List (Action × Seen)) (i : ℕ) (caps : Caps) (capacity : ℕ)
-    (ways : List Way) (answers : ℕ) (text : List ℕ) → AreRead (map view vs) observed → length vs ≤ i
+pub conforms : (steps : List Data) (observed : List (Action × Seen)) (i count : ℕ) (caps : Caps) (capacity : ℕ)
+    (ways : List Way) (answers : ℕ) (text : List ℕ) → AreRead steps observed → length steps ≡ count → count ≤ i
     → AreFollowed caps capacity (take i observed) i ways → answers ≡ seen_count (take i observed)
-    → text ≡ conforms_text (length vs) answers → IsConforming caps capacity (map view vs) text
-conforms vs observed i caps capacity ways answers text read past h counted told =
-    let count = count_read vs observed read in
-    let all : take i observed ≡ observed = take_all i observed (rw count past) in
+    → text ≡ conforms_text count answers → IsConforming caps capacity steps text
+conforms steps observed i count caps capacity ways answers text read many past h counted told =
+    let whole : length observed ≡ count = as_many_read steps observed read ∙ many in
+    let all : take i observed ≡ observed = take_all i observed (rw whole past) in
     let way = h.some in
     let at = reached caps capacity way.0.device observed i way.0.tickets.items
     (subst (λ done. IsFollowedTo caps capacity done i way.0.device way.0.tickets.items) all (h.each way.0 way.1)) in
@@ -112,7 +113,7 @@ conforms vs observed i caps capacity ways answers text read past h counted told 
       read = read;
       records = at.records;
       run = at.run;
-      told = told ∙ rw (count, ← all, ← counted) refl;
+      told = told ∙ rw (whole, ← all, ← counted) refl;
     }
 
 -- as many were counted as came, at most

@@ -1,12 +1,8 @@
 -- Steps of which nothing counts as seen, and the differences that are found one after the other.
-use Rattle.std.proofs.Common.{◌≡◌, ◌<◌, ◌≤◌, ℕ, zero, suc, ◌+◌, Bool, true, false, List, [], ◌∷◌, ◌++◌, Option, Some}
-use Rattle.std.proofs.Common.{None}
-use Rattle.std.proofs.Common.{refl, sym, ap, ◌∙◌, subst, map, length, take, flat_map, append_assoc, append-nil, get_or}
-use Rattle.std.proofs.Common.{arith}
-use Rattle.std.proofs.Math.ListN.{set}
-use Rattle.std.proofs.lemmas.{Grind.{flat_map-append}, List.{length-append, map-append, map-set, take_all, take_more}}
-use Rattle.std.proofs.lemmas.{Option.{slice_get_within}}
-use Rattle.std.specs.Prelude.{slice_get, is_some, ◌||◌}
+use Rattle.std.proofs.Common.{◌≡◌, ◌<◌, ◌≤◌, ℕ, ◌+◌, List, [], ◌∷◌, ◌++◌, Option, Some, None}
+use Rattle.std.proofs.Common.{refl, sym, ap, ◌∙◌, subst, map, length, take, flat_map, append_assoc, append-nil, arith}
+use Rattle.std.proofs.lemmas.{Grind.{flat_map-append}, List.{length-append, take_all}, Option.{slice_get_within}}
+use Rattle.std.specs.Prelude.{slice_get}
 use Rattle.serde_json.specs.{Data.{Data}, View.{view}, declared.value.Value.{Value}}
 use Rattle.dsa_regs.specs.declared.Caps.{Caps}
 use Rattle.dsa_scenario.specs.declared.{actions.Action.{Action}, run.Record.{Record}}
@@ -16,21 +12,8 @@ use Rattle.dsa_conform.specs.Lines.{seen_count}
 use Rattle.dsa_conform.specs.Every.{AreDifferences, AreDiffering, AreFoundDiffering, AreStruckOut, IsFirstDifference}
 use Rattle.dsa_conform.specs.Every.{IsFullVerdict, differs_text, unseen_at}
 use Rattle.dsa_conform.specs.Run.{AreRead, IsConforming, IsDiffering, IsShownRun, IsVerdict}
-use Rattle.dsa_conform.specs.Seen.{Seen, is_seen, nothing_seen, observation_of}
-use Rattle.dsa_conform.proofs.{Objects.{count_read, read_at}, Steps.{parsed}}
-
-abbrev seen_of_both : Option (List ℕ) → Option Bool → Seen
-seen_of_both answer zf = record { answer = answer; zf = zf }
-
--- where nothing was seen, it is nothing
-none_of : (answer : Option (List ℕ)) (zf : Option Bool) → (is_some answer || is_some zf) ≡ false
-    → seen_of_both answer zf ≡ nothing_seen
-none_of None None h = refl
-none_of None (Some flag) h = absurd cc
-none_of (Some text) zf h = absurd cc
-
-pub nothing_of : (seen : Seen) → is_seen seen ≡ false → seen ≡ nothing_seen
-nothing_of seen h = none_of seen.answer seen.zf h
+use Rattle.dsa_conform.specs.Seen.{Seen}
+use Rattle.dsa_conform.proofs.Objects.{as_many_read, count_read}
 
 -- what is read is one list
 same_items : {X : Type 0} (xs ys : List X) → map Some xs ≡ map Some ys → xs ≡ ys
@@ -45,31 +28,6 @@ same_items (x ∷ xs) (y ∷ ys) h =
 pub same_read : (ds : List Data) (first second : List (Action × Seen)) → AreRead ds first → AreRead ds second
     → first ≡ second
 same_read ds first second p q = same_items first second (sym p ∙ q)
-
--- ---- one step struck out
-
-struck_here : (ds : List Data) (d : Data) (o : Action × Seen) (os : List (Action × Seen))
-    → map observation_of ds ≡ map Some os → observation_of d ≡ Some (o.0, nothing_seen)
-    → AreRead (d ∷ ds) ((o.0, nothing_seen) ∷ os)
-struck_here ds d o os rest bare = rw (rest, bare) refl
-
-pub struck : (ds : List Data) (d : Data) (action : Action) (observed : List (Action × Seen)) (i : ℕ)
-    (here : Action × Seen) → AreRead ds observed → observation_of d ≡ Some (action, nothing_seen)
-    → slice_get observed i ≡ Some here → here.0 ≡ action → AreRead (set ds i d) (unseen_at i observed)
-struck [] d action [] zero here h bare at is = refl
-struck [] d action [] (suc i) here h bare at is = refl
-struck [] d action (o ∷ os) i here h bare at is = absurd cc
-struck (x ∷ xs) d action [] i here h bare at is = absurd cc
-struck (x ∷ xs) d action (o ∷ os) zero here h bare at is =
-    let rest : map observation_of xs ≡ map Some os = cc in
-    let same : o ≡ here = cc in
-    let asks : o.0 ≡ action = ap (λ (p : Action × Seen). p.0) same ∙ is in
-    struck_here xs d o os rest (bare ∙ ap (λ (a : Action). Some (a, nothing_seen)) (sym asks))
-struck (x ∷ xs) d action (o ∷ os) (suc i) here h bare at is =
-    let rest : map observation_of xs ≡ map Some os = cc in
-    let first : observation_of x ≡ Some o = cc in
-    let more = struck xs d action os i here rest bare at is in
-    rw (more, first) refl
 
 -- ---- one difference after the other
 
@@ -100,12 +58,12 @@ first_of caps capacity steps observed i text read h =
     (record { here = h.here; at = h.at; differs = h.differs })
 
 -- a step that differs is one of them
-pub differs_within : (caps : Caps) (capacity : ℕ) (vs : List Value) (i : ℕ) (text : List ℕ)
-    → IsDiffering caps capacity (map view vs) i text → i < length vs
-differs_within caps capacity vs i text h =
+pub differs_within : (caps : Caps) (capacity : ℕ) (steps : List Data) (i count : ℕ) (text : List ℕ)
+    → IsDiffering caps capacity steps i text → length steps ≡ count → i < count
+differs_within caps capacity steps i count text h many =
     let within = slice_get_within h.observed i h.here h.at in
-    let whole = count_read vs h.observed h.read in
-    omega (arith, within, whole)
+    let whole = as_many_read steps h.observed h.read in
+    omega (arith, within, whole, many)
 
 -- where none differs, all conform
 pub none_differs : (caps : Caps) (capacity : ℕ) (steps : List Data) (f : Option ScenarioFault) (text : List ℕ)
@@ -120,17 +78,17 @@ pub one_differs : (caps : Caps) (capacity : ℕ) (steps : List Data) (f : Option
 one_differs caps capacity steps f i text h is = subst (λ f. IsVerdict caps capacity steps f text) is h
 
 -- the first is found
-pub first_found : (caps : Caps) (capacity : ℕ) (vs left : List Value) (observed : List (Action × Seen)) (i : ℕ)
-    (text : List ℕ) → AreRead (map view vs) observed → IsDiffering caps capacity (map view vs) i text
-    → AreRead (map view left) (unseen_at i observed)
-    → AreFoundDiffering caps capacity (map view vs) i 1 text (map view left)
-first_found caps capacity vs left observed i text read h struck = record {
+pub first_found : (caps : Caps) (capacity : ℕ) (steps left : List Data) (observed : List (Action × Seen)) (i : ℕ)
+    (text : List ℕ) → AreRead steps observed → IsDiffering caps capacity steps i text
+    → AreRead left (unseen_at i observed)
+    → AreFoundDiffering caps capacity steps i 1 text left
+first_found caps capacity steps left observed i text read h struck = record {
   observed = observed;
   read = read;
   first = text;
   more = [];
   now = unseen_at i observed;
-  differ = (first_of caps capacity (map view vs) observed i text read h, refl);
+  differ = (first_of caps capacity steps observed i text read h, refl);
   counted = refl;
   is = sym (append-nil text);
   left_is = struck;
@@ -193,28 +151,6 @@ pub full_some : (caps : Caps) (capacity : ℕ) (steps : List Data) (f : Option S
 full_some caps capacity steps f i text h = subst (λ f. IsFullVerdict caps capacity steps f text) (sym h.0) h.1
 
 -- ---- the steps of a document
-
--- one step is copied
-pub copied : (vs copies new : List Value) (i : ℕ) (v w : Value) → i < length vs → v ≡ get_or vs i v
-    → map view copies ≡ map view (take i vs) → view w ≡ view v → new ≡ copies ++ w ∷ []
-    → map view new ≡ map view (take (i + 1) vs)
-copied vs copies new i v w inside is h same more =
-    let all : take (i + 1) vs ≡ take i vs ++ v ∷ [] =
-    take_more vs i v inside ∙ ap (λ x. take i vs ++ x ∷ []) (sym is) in
-    ap (map view) more ∙ map-append view copies (w ∷ []) ∙ ap (λ l. l ++ view w ∷ []) h
-    ∙ ap (λ x. map view (take i vs) ++ x ∷ []) same ∙ sym (map-append view (take i vs) (v ∷ []))
-    ∙ ap (map view) (sym all)
-
--- one step is struck out
-pub strike : (vs new : List Value) (i : ℕ) (v w : Value) (here : Action × Seen) (observed : List (Action × Seen))
-    → i < length vs → v ≡ get_or vs i v → Some here ≡ observation_of (view v)
-    → observation_of (view w) ≡ Some (here.0, nothing_seen) → new ≡ set vs i w → AreRead (map view vs) observed
-    → AreRead (map view new) (unseen_at i observed)
-strike vs new i v w here observed inside is reads bare more read =
-    let at = read_at vs observed i v read inside is in
-    subst (λ ds. AreRead ds (unseen_at i observed)) (sym (ap (map view) more ∙ map-set view vs i w))
-    (struck (map view vs) (view w) here.0 observed i at.here read bare at.at
-    (ap (λ (o : Action × Seen). o.0) (parsed observed i v here at reads)))
 
 -- all are counted
 pub counted_all : (vs : List Value) (first observed : List (Action × Seen)) (i answers : ℕ)

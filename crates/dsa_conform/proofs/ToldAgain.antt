@@ -19,7 +19,7 @@ use Rattle.dsa_conform.specs.Run.{AreAllRead, AreRead, IsFollowedTo, IsVerdict}
 use Rattle.dsa_conform.specs.Seen.{Seen, nothing_seen, observation_of}
 use Rattle.dsa_conform.specs.AsSeen.{ShowAll, seen_before, count_shown, IsFarthest, IsReadFarthest, IsStepMade}
 use Rattle.dsa_conform.specs.AsSeen.{IsPageShown, IsPageTo}
-use Rattle.dsa_conform.proofs.{Objects.{count_read}, Steps.{read_to}, Walks.{shown-push}}
+use Rattle.dsa_conform.proofs.{Objects.{at_item, count_read}, Steps.{read_to}, Walks.{shown-push}}
 
 -- one step more, on the page too
 pub page_more : {Page : Type 0} (is_page : List Visit → Page → Type 0)
@@ -94,7 +94,7 @@ pub told_on : {Page : Type 0} (is_page : List Visit → Page → Type 0) (vs : L
     → IsPageTo is_page caps capacity (seen_before count (take (i + 1) observed)) (i + 1) new more longer
 told_on is_page vs observed i v here seen count caps capacity now new tickets more page longer read inside is reads
     first other goes h =
-    let to = read_to vs observed i v here read inside is reads in
+    let to = read_to (map view vs) observed i here read (at_item vs i v (Some here) inside is reads) in
     let whole = count_read vs observed read in
     let so_many : length (take i observed) ≡ i = length-take-le i observed (omega (arith, whole, inside)) in
     let one_more = seen_more count (take i observed) here seen (λ h. first (rw so_many at h))

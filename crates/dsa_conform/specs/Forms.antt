@@ -16,9 +16,10 @@ AreLinesWith [] text = text ≡ []
 AreLinesWith (word ∷ words) text =
     (line : List ℕ) × (more : List ℕ) × IsLineWith word line × AreLinesWith words more × (text ≡ line ++ more)
 
--- the step that differs, what was seen of it, and so many answers that were allowed (profile)
+-- the step that differs, what was seen of it, a fact against that, and so many answers that were allowed (profile)
 abbrev pub words_of_difference : ℕ → List (List ℕ)
-words_of_difference allowed = codes "step " ∷ codes "seen: " ∷ replicate allowed (codes "allowed: ")
+words_of_difference allowed =
+    codes "step " ∷ codes "seen: " ∷ codes "against: " ∷ replicate allowed (codes "allowed: ")
 
 -- the lines of a document: that it conforms, where it differs, or none before the fault of a bad step (profile)
 abbrev pub IsReport : Option ScenarioFault → List ℕ → Type 0

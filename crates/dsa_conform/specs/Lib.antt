@@ -1,7 +1,10 @@
 pub mod Seen
 pub mod Allowed
 pub mod Quoted
+pub mod Facts
+pub mod Against
 pub mod Lines
+pub mod Sights
 pub mod Run
 pub mod AsSeen
 pub mod Every

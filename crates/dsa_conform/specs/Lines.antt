@@ -31,6 +31,10 @@ seen_words None None = []
 abbrev pub seen_line : Seen → List ℕ
 seen_line seen = codes "seen: " ++ seen_words seen.answer seen.zf ++ codes "\n"
 
+-- a fact that speaks against it (profile)
+abbrev pub against_line : List ℕ → List ℕ
+against_line fact = codes "against: " ++ fact ++ codes "\n"
+
 -- an answer that is allowed, and why it comes, where no entry is taken (profile)
 abbrev pub allowed_line : List ℕ → Record → List ℕ
 allowed_line told entry = codes "allowed: " ++ record_text entry ++ (shown told entry ++ codes "\n")
@@ -39,11 +43,11 @@ allowed_line told entry = codes "allowed: " ++ record_text entry ++ (shown told 
 abbrev pub asked_step_line : ℕ → Record → List ℕ
 asked_step_line number entry = codes "step " ++ decimal number ++ codes ": " ++ asked_words entry ++ codes "\n"
 
--- the step, what was seen of it, and the lines of what was allowed (profile)
-abbrev pub difference_text : ℕ → Seen → List (Record × List ℕ) → List ℕ
-difference_text number seen [] = []
-difference_text number seen (line ∷ lines) =
-    asked_step_line number line.0 ++ seen_line seen ++ flat_map (λ l. l.1) (line ∷ lines)
+-- the step, what was seen of it, a fact against that, and the lines of what was allowed (profile)
+abbrev pub difference_text : ℕ → Seen → List ℕ → List (Record × List ℕ) → List ℕ
+difference_text number seen fact [] = []
+difference_text number seen fact (line ∷ lines) =
+    asked_step_line number line.0 ++ seen_line seen ++ against_line fact ++ flat_map (λ l. l.1) (line ∷ lines)
 
 -- each element is so related to every later one
 abbrev pub IsPairwise : {X : Type 0} → (X → X → Type 0) → List X → Type 0

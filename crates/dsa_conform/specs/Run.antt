@@ -12,6 +12,7 @@ use Rattle.dsa_scenario.specs.declared.faults.ScenarioFault.{ScenarioFault, TheV
 use Rattle.dsa_scenario.specs.{Document.{HasHead, IsOpenable, IsFaultOf}, Run.{event_of, steps_of_records, AreOf}}
 use Rattle.dsa_scenario.specs.Steps.{standing, IsWalkTo}
 use Rattle.dsa_explain_lines.specs.Parts.{part_of}
+use Rattle.dsa_conform.specs.Against.{fact_against}
 use Rattle.dsa_conform.specs.Allowed.{IsAllowed}
 use Rattle.dsa_conform.specs.Lines.{AreListed, conforms_text, seen_count, allowed_line, difference_text}
 use Rattle.dsa_conform.specs.Seen.{Seen, observation_of, AreShown}
@@ -41,6 +42,13 @@ pub record IsReason (caps : Caps) (capacity : ℕ) (before : List (Action × See
   pub run : IsShownRun caps capacity before records
   pub is : reason ≡ part_of (standing caps capacity records) (event_of records action)
 
+-- a device has this fact against what was seen of the step, after a run that shows what was seen before (profile)
+pub record IsFact (caps : Caps) (capacity : ℕ) (before : List (Action × Seen)) (here : Action × Seen) (fact : List ℕ)
+    : Type 0 where
+  pub records : List Record
+  pub run : IsShownRun caps capacity before records
+  pub is : fact ≡ fact_against (standing caps capacity records) (event_of records here.0) here.1
+
 -- the lines are those of answers that are allowed, in ascending order of the queue taken from and none twice, and
 -- whatever is allowed after a run that shows what was seen before has its line, with the reason after some such run
 -- (profile)
@@ -53,8 +61,8 @@ pub record AreAllLines (caps : Caps) (capacity : ℕ) (before : List (Action × 
       × ((reason : List ℕ) × IsReason caps capacity before action reason × (line.1 ≡ allowed_line reason entry))
   pub listed : AreListed lines
 
--- some run shows what was seen before, none shows what was seen of this step too, and the text tells what
--- was allowed, which is one answer at least (profile)
+-- some run shows what was seen before, none shows what was seen of this step too, and the text tells a fact against
+-- that and what was allowed, which is one answer at least (profile)
 pub record IsDifference (caps : Caps) (capacity : ℕ) (before : List (Action × Seen)) (here : Action × Seen)
     (number : ℕ) (text : List ℕ) : Type 0 where
   pub some : List Record
@@ -63,7 +71,9 @@ pub record IsDifference (caps : Caps) (capacity : ℕ) (before : List (Action ×
   pub lines : List (Record × List ℕ)
   pub told : AreAllLines caps capacity before here.0 lines
   pub any : (line : Record × List ℕ) × In line lines
-  pub is : text ≡ difference_text number here.1 lines
+  pub fact : List ℕ
+  pub against : IsFact caps capacity before here fact
+  pub is : text ≡ difference_text number here.1 fact lines
 
 -- ---- the steps of a document
 

@@ -1,5 +1,5 @@
 -- The lines of what several devices allow.
-use Rattle.std.specs.Prelude.{◌≡◌, ◌<◌, ◌≤◌, ◌⊎◌, ℕ, List, map, length, take, slice_get, Some, string_bytes}
+use Rattle.std.specs.Prelude.{◌≡◌, ◌<◌, ◌≤◌, ◌⊎◌, ℕ, List, [], ◌∷◌, map, length, take, slice_get, Some, string_bytes}
 use Rattle.dsa_base.specs.Lists.{In}
 use Rattle.dsa_scenario.specs.declared.run.Record.{Record}
 use Rattle.dsa_conform.specs.declared.told.{Told.{Told}, Line.{Line}}
@@ -46,8 +46,13 @@ pub record AreLinesTold (tolds : List Told) (lines : List Line) : Type 0 where
       → HasText lines (allowed_line (string_bytes told.why) entry)
   pub listed : AreListed (map line_as lines)
 
+-- the fact of the first device
+abbrev pub fact_told : List Told → List ℕ
+fact_told [] = []
+fact_told (told ∷ tolds) = string_bytes told.against
+
 -- the text has these lines
 pub record IsTextTold (number : ℕ) (seen : Seen) (tolds : List Told) (text : List ℕ) : Type 0 where
   pub lines : List Line
   pub of_told : AreLinesTold tolds lines
-  pub is : text ≡ difference_text number seen (map line_as lines)
+  pub is : text ≡ difference_text number seen (fact_told tolds) (map line_as lines)

@@ -18,6 +18,7 @@ use Rattle.dsa_scenario.specs.declared.{run.Record.{Record, TheVariants.{Stepped
 use Rattle.dsa_scenario.specs.Run.{event_of, answered_by, Leads}
 use Rattle.dsa_explain_lines.specs.Parts.{part_of}
 use Rattle.dsa_conform.specs.declared.{way.Way.{Way}, told.Told.{Told}}
+use Rattle.dsa_conform.specs.Against.{fact_against}
 use Rattle.dsa_conform.specs.Allowed.{IsAllowed, AreAllowed, NoneShows}
 use Rattle.dsa_conform.specs.Run.{AreRead, IsDifference, IsFollowedTo}
 use Rattle.dsa_conform.specs.Seen.{Seen, shows}
@@ -92,9 +93,10 @@ abbrev pub Covers : Running → Result Event BadWord → Seen → List Way → T
 Covers now asked seen ways = (entry : Record) → (after : Running) → answered_by entry ≡ asked
     → Leads now entry after → shows seen entry ≡ true → IsAmong after ways
 
--- what a device allows and why, and none of it shows what was seen
+-- what a device allows and why, and none of it shows what was seen, against which this fact speaks
 pub record IsTold (now : Running) (asked : Result Event BadWord) (seen : Seen) (told : Told) : Type 0 where
   pub why : string_bytes told.why ≡ part_of now asked
+  pub against : string_bytes told.against ≡ fact_against now asked seen
   pub all : AreAllowed now asked told.allowed.items
   pub some : Record
   pub is_some : IsAllowed now asked some

@@ -1,7 +1,7 @@
 -- Observations and answers that the worked rows speak of.
 use Rattle.dsa_book.specs.declared.answer.Reply.TheVariants as reply
 use Rattle.dsa_book.specs.declared.event.Event.TheVariants as event
-use Rattle.std.specs.Prelude.{ℕ, Bool, String, true, false, List, [], ◌∷◌, ◌++◌, map, take, Some, None, codes, ⊤}
+use Rattle.std.specs.Prelude.{ℕ, Bool, String, true, false, List, [], ◌∷◌, ◌++◌, map, take, Some, None, Ok, codes, ⊤}
 use Rattle.std.specs.{Char.{encode_utf8}, Str.{chars}}
 use Rattle.std.specs.declared.{alloc.Global.{Global}, vec.Vec.{Vec}}
 use Rattle.dsa_book.specs.declared.answer.{Ticket.{Ticket}, DispatchAnswer.TheVariants.{Taken}}
@@ -10,7 +10,8 @@ use Rattle.dsa_book.specs.declared.answer.{Cause.TheVariants.{AtLimit}, ClearAns
 use Rattle.dsa_book.specs.declared.answer.FinishAnswer.TheVariants.{Done}
 use Rattle.dsa_book.specs.declared.answer.PollAnswer.{PollAnswer, TheVariants.{Nothing}}
 use Rattle.dsa_book.specs.declared.answer.{IssueAnswer.TheVariants.{Ended}, WriteAnswer.TheVariants.{Written}}
-use Rattle.dsa_book.specs.declared.event.{Kind.TheVariants.{Enqcmd, Movdir64b}, Portal.TheVariants.{Limited}}
+use Rattle.dsa_book.specs.declared.event.{Event.{Event}, Kind.TheVariants.{Enqcmd, Movdir64b}}
+use Rattle.dsa_book.specs.declared.event.{Portal.TheVariants.{Limited}}
 use Rattle.dsa_desc.specs.declared.Outcome.TheVariants.{Success}
 use Rattle.dsa_device.specs.Running.{Running, running_at_first}
 use Rattle.dsa_regs.specs.declared.{Caps.{Caps}, QueueConfig.{QueueConfig}, Fault.TheVariants.{BadCommand}}
@@ -23,7 +24,7 @@ use Rattle.dsa_scenario.specs.Worked.{group_of_a_run, records_of_a_run, submissi
 use Rattle.json.specs.Print.{escape_byte}
 use Rattle.dsa_scenario.specs.Worked.{smallest_caps_text, document_text, digits_on_literals}
 use Rattle.dsa_conform.specs.{declared.{told.{Line.{Line}, Told.{Told}}, way.Way.{Way}}, Seen.{Seen, nothing_seen}}
-use Rattle.dsa_conform.specs.{Ways.{RunFrom}}
+use Rattle.dsa_conform.specs.{Against.{fact_against}, Ways.{RunFrom}}
 
 -- the text of an answer was seen
 abbrev pub answered : List ℕ → Seen
@@ -189,9 +190,13 @@ no_cells = without_cells (standing caps_of_a_run 9 (take 4 records_of_a_run))
 abbrev pub line_of : Record → String Global → Line
 line_of entry text = record { entry = entry; text = text }
 
--- what a device allows, and why
+-- what a device allows, why, and a fact against what was seen
+abbrev pub told_against : String Global → String Global → Vec Record Global → Told
+told_against why against allowed = record { why = why; against = against; allowed = allowed }
+
+-- the same, where the fact is not looked at
 abbrev pub told_allowing : String Global → Vec Record Global → Told
-told_allowing why allowed = record { why = why; allowed = allowed }
+told_allowing why allowed = told_against why why allowed
 
 -- ---- the smallest device
 
@@ -230,6 +235,20 @@ abbrev pub poll_with : List ℕ → List ℕ
 poll_with field = codes "{\"do\":\"poll\"," ++ field ++ codes "}"
 
 -- ---- texts
+
+-- ---- facts
+
+-- the fact against this answer to the event
+abbrev pub against_at : Running → Event → List ℕ → List ℕ
+against_at now e text = fact_against now (Ok e) (answered text)
+
+-- engine 0 took from the first queue, and the history has room
+abbrev pub after_a_take_with_room : Running
+after_a_take_with_room = standing caps_of_three_queues 12 (records_of_two_queues ++ from_first ∷ [])
+
+-- an ENQCMD to the limited portal of the queue
+abbrev pub submitted_to : ℕ → Event
+submitted_to queue = event.Submit 0 queue Limited (Enqcmd 1) fill
 
 -- what a row unfolds to compute the words of a text and of a number
 unfoldable pub texts_on_literals : ⊤

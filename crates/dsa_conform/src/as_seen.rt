@@ -1,16 +1,17 @@
 //! A document in, what is made of its run as it was seen out.
 
-ghost use Rattle.std.specs.Prelude.{◌≡◌, ◌≤◌, IfOk, map, length};
+ghost use Rattle.std.specs.Prelude.{◌≡◌, ◌≤◌, ◌⊎◌, ℕ, List, None, IfErr, IfOk, map, length, string_bytes};
 ghost use Rattle.serde_json.specs.View.{view};
+ghost use Rattle.dsa_scenario.specs.Document.{HasHead, IsFaultOf};
 ghost use Rattle.dsa_conform.specs.Run.{AreAllRead};
 ghost use Rattle.dsa_conform.specs.AsSeen.{IsMadeAsSeen, IsReadFarthest, IsToldAsSeen};
 
 use crate::alone::count_alone;
-use crate::rendering::{TellSteps, render_told};
+use crate::rendering::{TellSteps, render_told, tell_head};
 use crate::retelling::{count_shown, retell};
 use crate::walk::{Verdict, walk_steps};
 use crate::way::{Way, queues_taken};
-use dsa_scenario::{Head, Render, RenderSteps, Rendered};
+use dsa_scenario::{Head, Render, RenderSteps, Rendered, ScenarioFault};
 use std::alloc::{AllocError, Global};
 
 /// What is made of a run of a document that shows what was seen, as a way to make a text of it.
@@ -101,6 +102,23 @@ impl<D: RenderSteps> TellSteps for AsSeen<D> {
             fault: None,
             way: None,
         })
+    }
+}
+
+impl<D: RenderSteps> AsSeen<D> {
+    /// What is made of a document of this head. It holds no value.
+    pub fn render_head(&self, alloc: Global, head: &Head<'_>) -> Rendered
+        ensures ok { IfOk result
+            (λ r. (bytes : List ℕ)
+            → HasHead bytes head.now.caps head.now.capacity (map view head.now.steps.now)
+            → IsMadeAsSeen (D.is_text self.now.what) bytes r.fault (string_bytes r.text)) }
+        ensures err { IfErr result
+            (λ e. (bytes : List ℕ)
+            → HasHead bytes head.now.caps head.now.capacity (map view head.now.steps.now)
+            → (e ≡ ScenarioFault.OutOfMemory) ⊎ IsFaultOf bytes e) }
+        ensures held { IfOk result (λ r. r.document ≡ None) }
+    {
+        tell_head(alloc, self, head)
     }
 }
 

@@ -1,7 +1,7 @@
 //! The lines of a step that differs.
 
 ghost use Rattle.std.specs.Prelude.{◌≡◌, ◌++◌, OnOk, string_bytes};
-ghost use Rattle.dsa_conform.specs.Lines.{flag_text, seen_words, seen_line, allowed_line, asked_step_line};
+ghost use Rattle.dsa_conform.specs.Lines.{flag_text, seen_words, seen_line, against_line, allowed_line, asked_step_line};
 ghost use Rattle.dsa_conform.specs.Seen.{seen_as};
 
 use crate::observed::Observed;
@@ -54,6 +54,16 @@ pub fn add_seen(text: &mut String, seen: &Observed<'_>) -> Result<(), AllocError
 {
     text.push_str("seen: ")?;
     add_seen_words(text, seen)?;
+    text.push_str("\n")
+}
+
+/// Adds a fact that speaks against what was seen.
+pub fn add_against(text: &mut String, fact: &str) -> Result<(), AllocError>
+    ensures { OnOk result
+        (string_bytes text.new ≡ string_bytes text.old ++ against_line fact.now) }
+{
+    text.push_str("against: ")?;
+    text.push_str(fact)?;
     text.push_str("\n")
 }
 

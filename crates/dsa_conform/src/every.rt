@@ -1,83 +1,42 @@
 //! A run of a document's steps with every step that differs.
 
-ghost use Rattle.std.specs.Prelude.{◌≡◌, ◌≢◌, ◌<◌, ◌++◌, ℕ, List, Some, true, IfOk, OnOk, MatchOption, map, length, string_bytes};
+ghost use Rattle.std.specs.Prelude.{◌≡◌, ◌≢◌, ◌<◌, ◌++◌, ℕ, List, Some, IfOk, OnOk, MatchOption, map, length, string_bytes};
 ghost use Rattle.serde_json.specs.{Data.{Data}, View.{view}};
 ghost use Rattle.dsa_scenario.specs.declared.actions.Action.{Action};
 ghost use Rattle.dsa_scenario.specs.declared.faults.ScenarioFault.TheVariants.{Differs};
 ghost use Rattle.dsa_conform.specs.Lines.{seen_count};
-ghost use Rattle.dsa_conform.specs.Every.{AreDiffering, AreFoundDiffering, IsFullVerdict, differs_text, unseen_at};
+ghost use Rattle.dsa_conform.specs.Every.{AreDiffering, IsFullVerdict, differs_text, unseen_at};
 ghost use Rattle.dsa_conform.specs.Run.{AreAllRead, AreRead, IsDiffering};
-ghost use Rattle.dsa_conform.specs.Seen.{Seen, nothing_seen, observation_of};
+ghost use Rattle.dsa_conform.specs.Seen.{Seen};
+ghost use Rattle.dsa_conform.specs.Sights.{bared};
 
 use crate::observed::parse_step;
-use crate::walk::{Verdict, count_more, walk_steps};
+use crate::sights::Sights;
+use crate::walk::{Verdict, count_more, walk_counted, walk_steps};
 use dsa_event_text::add_count;
-use dsa_scenario::{Action, Head, ScenarioFault};
+use dsa_scenario::{Head, ScenarioFault};
 use itoa::Buffer;
-use serde_json::Value;
 use std::alloc::{AllocError, Global};
 
-fn is_same(first: Action, second: Action) -> bool
-    ensures { result ≡ true → first ≡ second }
+// No step is left out yet, of so many.
+fn none_left_out(alloc: Global, steps: usize) -> Result<Vec<bool>, AllocError>
+    ensures { IfOk result
+        (λ marks. (length marks.items ≡ steps)
+        × ((objects : List Data) → bared marks.items objects ≡ objects)) }
 {
-    first == second
-}
-
-// Whether the object asks this, and does not say that anything was seen.
-fn is_bare(step: &Value, action: Action) -> bool
-    ensures { result ≡ true → observation_of (view step.now) ≡ Some (action, nothing_seen) }
-{
-    let Some((again, seen)) = parse_step(step) else {
-        return false;
-    };
-    if seen.is_seen() {
-        return false;
-    }
-    is_same(again, action)
-}
-
-// The step object without what was seen. That it asks the same is found out again.
-fn bare(step: &Value, action: Action) -> Result<Value, AllocError>
-    ensures { IfOk result (λ v. observation_of (view v) ≡ Some (action, nothing_seen)) }
-{
-    let mut value = step.clone()?;
-    if let Some(members) = value.as_object_mut() {
-        members.remove("answer");
-        members.remove("zf");
-    }
-    if !is_bare(&value, action) {
-        return Err(AllocError);
-    }
-    Ok(value)
+    vec![in alloc; false; steps]
 }
 
 // From now on nothing counts as seen of the step of this number.
-fn strike_out(steps: &mut Vec<Value>, number: usize) -> Result<(), AllocError>
-    requires { number < length steps.old.items }
-    ensures read { OnOk result
-        ((observed : List (Action × Seen))
-        → AreRead (map view steps.old.items) observed
-        → AreRead (map view steps.new.items) (unseen_at number observed)) }
-    ensures as_many { OnOk result (length steps.new.items ≡ length steps.old.items) }
+fn leave_out(left_out: &mut Vec<bool>, number: usize)
+    requires { number < length left_out.old.items }
+    ensures read { (steps : List Data)
+        → (observed : List (Action × Seen))
+        → AreRead (bared left_out.old.items steps) observed
+        → AreRead (bared left_out.new.items steps) (unseen_at number observed) }
+    ensures as_many { length left_out.new.items ≡ length left_out.old.items }
 {
-    let step = &steps[number];
-    let Some((action, _)) = parse_step(step) else {
-        return Err(AllocError);
-    };
-    let value = bare(step, action)?;
-    steps[number] = value;
-    Ok(())
-}
-
-fn copy_steps(alloc: Global, steps: &[Value]) -> Result<Vec<Value>, AllocError>
-    ensures { IfOk result (λ copies. map view copies.items ≡ map view steps.now) }
-{
-    let mut copies = Vec::new(alloc);
-    for step in steps {
-        let copy = step.clone()?;
-        copies.push(copy)?;
-    }
-    Ok(copies)
+    left_out[number] = true;
 }
 
 // Of how many of the steps something was seen.
@@ -141,15 +100,14 @@ fn walk_on(
         × AreDiffering head.now.caps head.now.capacity (map view head.now.steps.now) first
         (string_bytes verdict.text)) }
 {
-    let mut steps = copy_steps(alloc, head.steps)?;
-    strike_out(&mut steps, first)?;
+    let mut left_out = none_left_out(alloc, head.steps.len())?;
+    leave_out(&mut left_out, first);
     for before in 0..head.steps.len() {
-        let left = Head {
-            caps: head.caps,
-            capacity: head.capacity,
-            steps: steps.as_slice(),
+        let sights = Sights {
+            head: &*head,
+            left_out: left_out.as_slice(),
         };
-        let verdict = walk_steps(alloc, &left)?;
+        let verdict = walk_counted(alloc, &sights)?;
         let Some(number) = differing_step(&verdict.fault) else {
             add_differs(&mut text, before + 1, head.steps.len(), count_seen(head))?;
             return Ok(Verdict {
@@ -159,7 +117,7 @@ fn walk_on(
             });
         };
         text.push_str(verdict.text.as_str())?;
-        strike_out(&mut steps, number)?;
+        leave_out(&mut left_out, number);
     }
     Err(AllocError)
 }

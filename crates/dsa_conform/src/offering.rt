@@ -17,8 +17,8 @@ use dsa_scenario::{Asked, Record};
 use dsa_store::EntryStore;
 use std::alloc::{AllocError, Global};
 
-// The answer that the front of the queue is taken, where the engine may take it.
-fn offer<S: EntryStore>(device: &Device<S>, engine: u16, queue: u16) -> Option<Record>
+/// The answer that the front of the queue is taken, where the engine may take it.
+pub fn offer<S: EntryStore>(device: &Device<S>, engine: u16, queue: u16) -> Option<Record>
     ensures { result ≡ offer device.now.state.work engine queue }
 {
     let ticket = device.offered(engine, queue)?;

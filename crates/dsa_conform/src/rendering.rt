@@ -1,9 +1,9 @@
 //! A document in, what is told of its steps by what was seen of them out.
 
-ghost use Rattle.std.specs.Prelude.{◌≡◌, ◌⊎◌, ℕ, List, Option, Some, IfErr, IfOk, IfSome, map, string_bytes};
+ghost use Rattle.std.specs.Prelude.{◌≡◌, ◌⊎◌, ℕ, List, Option, None, Some, IfErr, IfOk, IfSome, map, string_bytes};
 ghost use Rattle.serde_json.specs.{Data.{Data}, View.{view}};
 ghost use Rattle.dsa_regs.specs.declared.Caps.{Caps};
-ghost use Rattle.dsa_scenario.specs.Document.{IsJson};
+ghost use Rattle.dsa_scenario.specs.Document.{HasHead, IsJson};
 ghost use Rattle.dsa_scenario.specs.declared.faults.ScenarioFault.{ScenarioFault};
 ghost use Rattle.dsa_scenario.specs.declared.faults.ScenarioFault.TheVariants.{BadStep};
 ghost use Rattle.dsa_conform.specs.Run.{AreAllRead, IsConformance, IsOtherFault, IsToldOf};
@@ -66,11 +66,39 @@ impl Render for Conformance {
     }
 }
 
-/// What `what` tells of the steps of the document in these bytes.
+/// What `what` tells of the steps of a document of this head. It holds no value.
 ///
 /// The first object that is no step object with what was seen is told in any case. No step is run
 /// before all objects are read, and of the other faults only those of what is no document come
 /// before.
+pub fn tell_head<T: TellSteps>(alloc: Global, what: &T, head: &Head<'_>) -> Rendered
+    ensures ok { IfOk result
+        (λ r. (bytes : List ℕ)
+        → HasHead bytes head.now.caps head.now.capacity (map view head.now.steps.now)
+        → IsToldOf (T.is_told what.now) bytes r.fault (string_bytes r.text)) }
+    ensures err { IfErr result
+        (λ e. (bytes : List ℕ)
+        → HasHead bytes head.now.caps head.now.capacity (map view head.now.steps.now)
+        → (e ≡ ScenarioFault.OutOfMemory) ⊎ IsOtherFault bytes e) }
+    ensures held { IfOk result (λ r. r.document ≡ None) }
+{
+    if let Some(i) = first_unread(head.steps) {
+        return Ok(Rendering {
+            text: String::new(alloc),
+            fault: Some(ScenarioFault::BadStep(i as u64)),
+            document: None,
+        });
+    }
+    check_head(head)?;
+    let verdict = what.tell(alloc, head)?;
+    Ok(Rendering {
+        text: verdict.text,
+        fault: verdict.fault,
+        document: None,
+    })
+}
+
+/// What `what` tells of the steps of the document in these bytes, as [`tell_head`] does.
 pub fn render_told<T: TellSteps>(alloc: Global, what: &T, bytes: &[u8]) -> Rendered
     ensures ok { IfOk result
         (λ r. IsToldOf (T.is_told what.now) bytes.now r.fault (string_bytes r.text)) }
@@ -81,18 +109,10 @@ pub fn render_told<T: TellSteps>(alloc: Global, what: &T, bytes: &[u8]) -> Rende
     let Some(head) = parse_head(&value) else {
         return Err(ScenarioFault::BadDocument);
     };
-    if let Some(i) = first_unread(head.steps) {
-        return Ok(Rendering {
-            text: String::new(alloc),
-            fault: Some(ScenarioFault::BadStep(i as u64)),
-            document: None,
-        });
-    }
-    check_head(&head)?;
-    let verdict = what.tell(alloc, &head)?;
+    let told = tell_head(alloc, what, &head)?;
     Ok(Rendering {
-        text: verdict.text,
-        fault: verdict.fault,
+        text: told.text,
+        fault: told.fault,
         document: Some(value),
     })
 }

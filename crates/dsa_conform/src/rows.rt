@@ -34,12 +34,13 @@ ghost use Rattle.dsa_conform.specs.Lines.{AreListed, allowed_line, conforms_text
 ghost use Rattle.dsa_conform.specs.Run.{IsShownRun, IsAllowedLine, IsReason, AreAllLines, IsDifference, AreRead, IsUnreadAt, IsConforming, IsDiffering, IsConformance, IsFollowedTo, IsOtherFault};
 ghost use Rattle.dsa_conform.specs.AsSeen.{count_shown, seen_before, IsFarthest, IsShownUpTo, IsMadeAsSeen, IsTextAsSeen, IsToldAsSeen};
 ghost use Rattle.dsa_conform.specs.Every.{AreDifferences, AreDiffering, IsFullVerdict, IsVerdictOf, differs_text, unseen_at};
+ghost use Rattle.dsa_conform.specs.Sights.{bare, bared, is_marked, step_at};
 ghost use Rattle.dsa_regs.specs.declared.Caps.{Caps};
 ghost use Rattle.dsa_conform.specs.declared.{told.Told.{Told}, way.Way.{Way}};
 ghost use Rattle.dsa_book.specs.declared.answer.Ticket.{Ticket};
-ghost use Rattle.dsa_conform.specs.ToldLines.{AddsLines, AreLinesTold, HasText, IsLineOf, IsLinePlaced, IsPlaceOf, IsTextTold};
+ghost use Rattle.dsa_conform.specs.ToldLines.{AddsLines, AreLinesTold, HasText, IsLineOf, IsLinePlaced, IsPlaceOf, IsTextTold, fact_told};
 ghost use Rattle.dsa_conform.specs.Ways.{queue_of_record, queues_taken, AreAdded, AreDevicesAlike, AreFollowed, AreGone, AreGoneOn, AreNamedEnds, AreOn, AreStepped, Covers, IsAdded, IsEngineAlike, IsFollowedOn, IsGone, IsGoneOn, IsOn, IsOneGone, IsReadTo, IsTold, IsWayBy, IsFork, IsNamedEnd, IsOneWay, IsQueueAlike, RunFrom};
-ghost use Rattle.dsa_conform.specs.Worked.{caps_of_two_queues, observed_of_an_error, records_of_one_error, records_of_two_errors, cleared, no_cells, told_allowing, way_at_first, records_of_two_queues, observed_of_two_queues, end_of_second, caps_of_three_queues, answered, flagged, answered_with, by_enqcmd, by_movdir, observed_of_a_run, record_of_a_take, idle_words, from_first, from_second, from_third, after_some, after_all, after_a_take, line_of, smallest_device_at_first, document_of, poll_with, GoesAtFirst, polled_with, refused_then_polled, poll_record, nothing_line};
+ghost use Rattle.dsa_conform.specs.Worked.{caps_of_two_queues, observed_of_an_error, records_of_one_error, records_of_two_errors, cleared, no_cells, told_against, told_allowing, way_at_first, records_of_two_queues, observed_of_two_queues, end_of_second, caps_of_three_queues, answered, flagged, answered_with, by_enqcmd, by_movdir, observed_of_a_run, record_of_a_take, idle_words, from_first, from_second, from_third, after_some, after_all, after_a_take, line_of, smallest_device_at_first, document_of, poll_with, GoesAtFirst, polled_with, refused_then_polled, poll_record, nothing_line};
 
 /// What a step object says was seen.
 pub fn observations()
@@ -262,29 +263,29 @@ pub fn a_run()
 pub fn texts()
     ensures conforms { conforms_text 9 4 ≡ codes "conforms: 9 steps, 4 answers seen\n" }
     ensures one { conforms_text 1 1 ≡ codes "conforms: 1 step, 1 answer seen\n" }
-    ensures idle { difference_text 17 (answered (codes "idle"))
+    ensures idle { difference_text 17 (answered (codes "idle")) (codes "e0 may take 7 from q0")
         ((record_of_a_take 7 0, allowed_line idle_words (record_of_a_take 7 0))
         ∷ (record_of_a_take 9 2, allowed_line [] (record_of_a_take 9 2))
         ∷ [])
         ≡ codes
-        "step 17: dispatch e0\nseen: idle\nallowed: taken 7 from 0\nallowed: taken 9 from 2\n" }
-    ensures poll { difference_text 3 (answered (codes "active"))
+        "step 17: dispatch e0\nseen: idle\nagainst: e0 may take 7 from q0\nallowed: taken 7 from 0\nallowed: taken 9 from 2\n" }
+    ensures poll { difference_text 3 (answered (codes "active")) (codes "no command is active")
         ((
           poll_record Nothing,
           allowed_line (codes ": no command is active") (poll_record Nothing),
         )
         ∷ [])
-        ≡ codes "step 3: poll\nseen: active\nallowed: nothing: no command is active\n" }
+        ≡ codes "step 3: poll\nseen: active\nagainst: no command is active\nallowed: nothing: no command is active\n" }
     ensures both { seen_line (answered_with (codes "accepted 3") false)
         ≡ codes "seen: accepted 3, zf false\n" }
     ensures nothing { seen_line nothing_seen ≡ codes "seen: \n" }
     ensures not_plain { seen_line (answered (codes "idle\n")) ≡ codes "seen: \"idle\\u000a\"\n" }
     ensures not_plain_with_flag { seen_line (answered_with (codes "\"") true)
         ≡ codes "seen: \"\\\"\", zf true\n" }
-    ensures none { difference_text 3 (answered (codes "active")) [] ≡ [] }
-    ensures flag { difference_text 0 (flagged true)
+    ensures none { difference_text 3 (answered (codes "active")) (codes "q1 is empty") [] ≡ [] }
+    ensures flag { difference_text 0 (flagged true) []
         ((Refused no_command, allowed_line [] (Refused no_command)) ∷ [])
-        ≡ codes "step 0: command 0x0\nseen: zf true\nallowed: refused 13 BadCommand\n" }
+        ≡ codes "step 0: command 0x0\nseen: zf true\nagainst: \nallowed: refused 13 BadCommand\n" }
 {}
 
 /// A text that was seen, as it is where it is plain, and else in JSON.
@@ -323,30 +324,38 @@ pub fn lines_of_forms()
 /// The lines of a document that conforms, of one that differs, and of one with a bad step.
 pub fn reports()
     ensures words { words_of_difference 2
-        ≡ codes "step " ∷ codes "seen: " ∷ codes "allowed: " ∷ codes "allowed: " ∷ [] }
+        ≡ codes "step " ∷ codes "seen: " ∷ codes "against: " ∷ codes "allowed: "
+        ∷ codes "allowed: " ∷ [] }
     ensures conforms { IsReport None (codes "conforms: 1 step, 0 answers seen\n") }
     ensures one_line { ¬ IsReport None
         (codes "conforms: 1 step, 0 answers seen\nallowed: nothing\n") }
     ensures nothing { ¬ IsReport None [] }
     ensures differs { IsReport (Some (Differs 0))
-        (codes "step 0: poll\nseen: full\nallowed: nothing\n") }
+        (codes "step 0: poll\nseen: full\nagainst: a\nallowed: nothing\n") }
     ensures more { IsReport (Some (Differs 4))
         (codes
-        "step 4: dispatch e0\nseen: full\nallowed: taken 7 from 0\nallowed: taken 9 from 2\n") }
-    ensures none_allowed { ¬ IsReport (Some (Differs 0)) (codes "step 0: poll\nseen: full\n") }
+        "step 4: dispatch e0\nseen: full\nagainst: a\nallowed: taken 7 from 0\nallowed: taken 9 from 2\n") }
+    ensures none_allowed { ¬ IsReport (Some (Differs 0))
+        (codes "step 0: poll\nseen: full\nagainst: a\n") }
+    ensures none_against { ¬ IsReport (Some (Differs 0))
+        (codes "step 0: poll\nseen: full\nallowed: nothing\nallowed: nothing\n") }
     ensures not_seen { ¬ IsReport (Some (Differs 0))
         (codes "step 0: poll\nallowed: nothing\nallowed: nothing\n") }
     ensures no_step { ¬ IsReport (Some (Differs 0)) (codes "conforms: 1 step, 0 answers seen\n") }
     ensures no_blanks { ¬ IsReport (Some (Differs 0))
-        (codes "step0: poll\nseen: full\nallowed: nothing\n")
-        × ¬ IsReport (Some (Differs 0)) (codes "step 0: poll\nseen:full\nallowed: nothing\n")
-        × ¬ IsReport (Some (Differs 0)) (codes "step 0: poll\nseen: full\nallowed:nothing\n") }
+        (codes "step0: poll\nseen: full\nagainst: a\nallowed: nothing\n")
+        × ¬ IsReport (Some (Differs 0))
+        (codes "step 0: poll\nseen:full\nagainst: a\nallowed: nothing\n")
+        × ¬ IsReport (Some (Differs 0))
+        (codes "step 0: poll\nseen: full\nagainst:a\nallowed: nothing\n")
+        × ¬ IsReport (Some (Differs 0))
+        (codes "step 0: poll\nseen: full\nagainst: a\nallowed:nothing\n") }
     ensures bad_step { IsReport (Some (BadStep 0)) [] }
     ensures before_bad_step { ¬ IsReport (Some (BadStep 0)) (codes "step 0: poll\n") }
     ensures not_json { ¬ IsReport (Some NotJson) [] }
     ensures all { IsFullReport (Some (Differs 0))
         (codes
-        "step 0: poll\nseen: full\nallowed: nothing\ndiffers: 1 step of 1, 1 answer seen\n") }
+        "step 0: poll\nseen: full\nagainst: a\nallowed: nothing\ndiffers: 1 step of 1, 1 answer seen\n") }
     ensures all_conform { IsFullReport None (codes "conforms: 1 step, 0 answers seen\n") }
     ensures no_differences { ¬ IsFullReport (Some (Differs 0))
         (codes "differs: 1 step of 1, 1 answer seen\n") }
@@ -368,7 +377,7 @@ pub fn every_difference()
     ensures told { AreDiffering smallest_caps 9
         (object_of ((codes "answer", string (codes "active")) ∷ poll_step) ∷ []) 0
         (codes
-        "step 0: poll\nseen: active\nallowed: nothing: no command is active\ndiffers: 1 step of 1, 1 answer seen\n") }
+        "step 0: poll\nseen: active\nagainst: no command is active\nallowed: nothing: no command is active\ndiffers: 1 step of 1, 1 answer seen\n") }
     ensures none { ¬ AreDifferences smallest_caps 9 (polled_with (answered (codes "active"))) [] }
     ensures shown { (text : List ℕ)
         → ¬ AreDifferences smallest_caps 9 (polled_with (answered (codes "nothing")))
@@ -378,6 +387,27 @@ pub fn every_difference()
     ensures other_fault { ¬ IsFullVerdict smallest_caps 9 [] (Some BadCaps) [] }
     ensures first { (caps : Caps) (text : List ℕ) → IsVerdictOf false caps 9 [] None text
         → IsConforming caps 9 [] text }
+{}
+
+/// Step objects without what was seen of those that are marked.
+pub fn steps_left_out()
+    ensures bare { bare (object_of
+        ((codes "answer", string (codes "full")) ∷ (codes "zf", boolean false) ∷ poll_step))
+        ≡ object_of poll_step }
+    ensures behind { bare (object_of ((codes "note", null) ∷ (codes "zf", null) ∷ []))
+        ≡ object_of ((codes "note", null) ∷ []) }
+    ensures inside { bare (object_of ((codes "note", object_of ((codes "zf", null) ∷ [])) ∷ []))
+        ≡ object_of ((codes "note", object_of ((codes "zf", null) ∷ [])) ∷ []) }
+    ensures no_object { bare (string (codes "zf")) ≡ string (codes "zf") }
+    ensures marked { bared (false ∷ true ∷ []) (replicate 3 (object_of ((codes "zf", null) ∷ [])))
+        ≡ object_of ((codes "zf", null) ∷ []) ∷ object_of []
+        ∷ object_of ((codes "zf", null) ∷ []) ∷ [] }
+    ensures behind_all { bared (true ∷ []) [] ≡ [] }
+    ensures marks { map (is_marked (false ∷ true ∷ [])) (0 ∷ 1 ∷ 2 ∷ [])
+        ≡ false ∷ true ∷ false ∷ [] }
+    ensures read { map (step_at (object_of ((codes "zf", boolean true) ∷ poll_step) ∷ object_of []
+        ∷ [])) (0 ∷ 1 ∷ 2 ∷ [])
+        ≡ Some (Ask event.Poll, flagged true) ∷ None ∷ None ∷ [] }
 {}
 
 /// Which queue an answer tells, and the queues that steps took from.
@@ -415,24 +445,24 @@ pub fn verdicts()
     ensures after_one { IsDifference smallest_caps 1
         ((Ask (event.WriteGroup 0 group_of_a_run), nothing_seen) ∷ [])
         (Ask event.Poll, answered (codes "nothing")) 1
-        (codes "step 1: poll\nseen: nothing\nallowed: full: the history has room for 1 step\n") }
+        (codes "step 1: poll\nseen: nothing\nagainst: the history has room for 1 step\nallowed: full: the history has room for 1 step\n") }
     ensures second { IsDiffering smallest_caps 9
         (changed (codes "word") (whole 0) command_step
         ∷ object_of ((codes "answer", string (codes "active")) ∷ poll_step)
         ∷ [])
-        1 (codes "step 1: poll\nseen: active\nallowed: nothing: no command is active\n") }
+        1 (codes "step 1: poll\nseen: active\nagainst: no command is active\nallowed: nothing: no command is active\n") }
     ensures shown { ¬ IsDifference smallest_caps 9 [] (Ask event.Poll, answered (codes "nothing"))
-        0 (codes "step 0: poll\nseen: nothing\nallowed: nothing: no command is active\n") }
+        0 (codes "step 0: poll\nseen: nothing\nagainst: no command is active\nallowed: nothing: no command is active\n") }
     ensures untold { ¬ IsDifference smallest_caps 9 [] (Ask event.Poll, answered (codes "active")) 0
         [] }
     ensures earlier { ¬ IsDifference smallest_caps 9
         ((Refuse no_command, answered (codes "nothing")) ∷ [])
         (Ask event.Poll, answered (codes "active")) 1 [] }
     ensures other_step { ¬ IsDiffering smallest_caps 9 (object_of poll_step ∷ []) 0
-        (codes "step 0: poll\nseen: active\nallowed: nothing: no command is active\n") }
+        (codes "step 0: poll\nseen: active\nagainst: no command is active\nallowed: nothing: no command is active\n") }
     ensures unread_behind { ¬ IsDiffering smallest_caps 9
         (object_of ((codes "answer", string (codes "active")) ∷ poll_step) ∷ null ∷ []) 0
-        (codes "step 0: poll\nseen: active\nallowed: nothing: no command is active\n") }
+        (codes "step 0: poll\nseen: active\nagainst: no command is active\nallowed: nothing: no command is active\n") }
     ensures unread { ¬ IsConforming smallest_caps 9 (null ∷ []) (conforms_text 1 0) }
     ensures not_shown { ¬ IsConforming smallest_caps 9
         (changed (codes "word") (whole 0)
@@ -458,7 +488,7 @@ pub fn documents()
         (codes "conforms: 1 step, 1 answer seen\n") }
     ensures differs { IsConformance (document_of (poll_with (codes "\"answer\":\"active\"")))
         (Some (Differs 0))
-        (codes "step 0: poll\nseen: active\nallowed: nothing: no command is active\n") }
+        (codes "step 0: poll\nseen: active\nagainst: no command is active\nallowed: nothing: no command is active\n") }
     ensures unread { IsConformance
         (document_of (poll_with (codes "\"zf\":true") ++ codes "," ++ poll_with (codes "\"zf\":1")))
         (Some (BadStep 1)) [] }
@@ -476,7 +506,7 @@ pub fn documents()
         ++ codes ","
         ++ poll_with (codes "\"zf\":1")))
         (Some (Differs 0))
-        (codes "step 0: poll\nseen: active\nallowed: nothing: no command is active\n") }
+        (codes "step 0: poll\nseen: active\nagainst: no command is active\nallowed: nothing: no command is active\n") }
 {}
 
 /// What was seen of the first steps, and how many these are.
@@ -766,11 +796,21 @@ pub fn told_lines()
         → ¬ AddsLines [] [] (told_allowing why allowed) (from_first ∷ []) }
     ensures text { (line : String Global)
         → (why : String Global)
+        → (fact : String Global)
         → (allowed : Vec Record Global)
         → allowed.items ≡ from_first ∷ []
         → string_bytes line ≡ codes "allowed: taken 0 from 0\n"
-        → IsTextTold 17 (answered (codes "idle")) (told_allowing why allowed ∷ [])
-        (codes "step 17: dispatch e0\nseen: idle\nallowed: taken 0 from 0\n") }
+        → string_bytes fact ≡ codes "e0 may take 0 from q0"
+        → IsTextTold 17 (answered (codes "idle")) (told_against why fact allowed ∷ [])
+        (codes
+        "step 17: dispatch e0\nseen: idle\nagainst: e0 may take 0 from q0\nallowed: taken 0 from 0\n") }
+    ensures facts { (why : String Global)
+        → (first : String Global)
+        → (second : String Global)
+        → (allowed : Vec Record Global)
+        → fact_told (told_against why first allowed ∷ told_against why second allowed ∷ [])
+        ≡ string_bytes first }
+    ensures no_fact { fact_told [] ≡ [] }
     ensures no_device { (text : String Global)
         → ¬ AreLinesTold [] (line_of from_first text ∷ []) }
     ensures no_such_answer { (text : String Global)
@@ -834,11 +874,19 @@ pub fn devices_added()
         → IsFollowedOn smallest_caps 9 [] 1 a (Some told) }
     ensures not_followed { (a : Way) → ¬ IsFollowedOn smallest_caps 9 [] 1 a None }
     ensures told { (why : String Global)
+        → (fact : String Global)
         → (allowed : Vec Record Global)
         → string_bytes why ≡ codes ": no command is active"
+        → string_bytes fact ≡ codes "no command is active"
         → allowed.items ≡ poll_record Nothing ∷ []
         → IsTold smallest_device_at_first (Ok event.Poll) (answered (codes "active"))
-        (told_allowing why allowed) }
+        (told_against why fact allowed) }
+    ensures other_fact { (why : String Global)
+        → (fact : String Global)
+        → (allowed : Vec Record Global)
+        → string_bytes fact ≡ codes "q1 is empty"
+        → ¬ IsTold smallest_device_at_first (Ok event.Poll) (answered (codes "active"))
+        (told_against why fact allowed) }
     ensures other_reason { (why : String Global)
         → (allowed : Vec Record Global)
         → string_bytes why ≡ codes ": q1 is empty"

@@ -9,6 +9,7 @@ ghost use Rattle.dsa_conform.specs.Seen.{Seen, seen_as};
 ghost use Rattle.dsa_conform.specs.Run.{IsFollowedTo};
 ghost use Rattle.dsa_conform.specs.Ways.{IsFollowedOn, IsNamedEnd, IsOn, IsOneWay};
 
+use crate::against::fact_against;
 use crate::following::{Followed, follow};
 use crate::observed::Observed;
 use crate::told::Told;
@@ -59,12 +60,17 @@ pub fn walk_step(
         return Ok(None);
     }
     let why = reason_of(alloc, &way.device, &asked)?;
+    let against = fact_against(alloc, &way.device, &asked, seen, why.as_str())?;
     let followed = follow(alloc, &mut way.device, &asked, seen)?;
     match followed {
         Followed::Shown(entry) => {
             note_ticket(&mut way.tickets, &entry)?;
             Ok(None)
         }
-        Followed::Differs(allowed) => Ok(Some(Told { why, allowed })),
+        Followed::Differs(allowed) => Ok(Some(Told {
+            why,
+            against,
+            allowed,
+        })),
     }
 }

@@ -4,18 +4,19 @@ ghost use Rattle.std.specs.Prelude.{◌≡◌, ◌++◌, true, false, OnOk, IfOk
 ghost use Rattle.dsa_conform.specs.Allowed.{queue_taken};
 ghost use Rattle.dsa_conform.specs.Lines.{allowed_line, difference_text};
 ghost use Rattle.dsa_conform.specs.Seen.{seen_as};
-ghost use Rattle.dsa_conform.specs.ToldLines.{HasText, IsPlaceOf, IsLinePlaced, AddsLines, AreLinesTold, IsTextTold, line_as};
+ghost use Rattle.dsa_conform.specs.ToldLines.{HasText, IsPlaceOf, IsLinePlaced, AddsLines, AreLinesTold, IsTextTold, fact_told, line_as};
 
-use crate::difference::{add_allowed, add_seen, add_step};
+use crate::difference::{add_against, add_allowed, add_seen, add_step};
 use crate::observed::Observed;
 use crate::way::queue_of_record;
 use dsa_scenario::Record;
 use std::alloc::{AllocError, Global};
 
-/// What one device allows, and why.
+/// What one device allows, why, and which fact of it speaks against what was seen.
 #[derive(Drop)]
 pub struct Told {
     pub why: String,
+    pub against: String,
     pub allowed: Vec<Record>,
 }
 
@@ -115,7 +116,18 @@ fn add_lines(text: &mut String, lines: &[Line]) -> Result<(), AllocError>
     Ok(())
 }
 
-/// The step of this number, what was seen of it, and what each device allowed, each line once.
+// The fact of the first device.
+fn fact_told(tolds: &[Told]) -> &str
+    ensures { result.now ≡ fact_told tolds.now }
+{
+    match tolds.first() {
+        Some(told) => told.against.as_str(),
+        None => "",
+    }
+}
+
+/// The step of this number, what was seen of it, the fact of the first device against that, and
+/// what each device allowed, each line once.
 pub fn told_text(
     alloc: Global,
     number: usize,
@@ -131,6 +143,7 @@ pub fn told_text(
     if let Some(first) = lines.first() {
         add_step(&mut text, number, &first.entry)?;
         add_seen(&mut text, seen)?;
+        add_against(&mut text, fact_told(tolds))?;
         add_lines(&mut text, lines)?;
     }
     Ok(text)

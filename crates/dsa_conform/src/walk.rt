@@ -9,11 +9,13 @@ ghost use Rattle.dsa_scenario.specs.declared.faults.ScenarioFault.TheVariants.{D
 ghost use Rattle.dsa_conform.specs.Seen.{Seen, seen_as, is_seen};
 ghost use Rattle.dsa_conform.specs.Lines.{conforms_text, seen_count};
 ghost use Rattle.dsa_conform.specs.Run.{AreAllRead, AreRead, IsFollowedTo, IsVerdict};
+ghost use Rattle.dsa_conform.specs.Sights.{steps_counted};
 ghost use Rattle.dsa_conform.specs.ToldLines.{IsTextTold};
 ghost use Rattle.dsa_conform.specs.Ways.{AreFollowed, IsOneWay};
 
-use crate::observed::{Observed, parse_step};
+use crate::observed::Observed;
 use crate::offering::fork;
+use crate::sights::{Sights, step_at};
 use crate::step::walk_step;
 use crate::told::{Told, told_text};
 use crate::way::{Way, first_way};
@@ -91,29 +93,29 @@ fn differs_by(
 // The steps from this one on, of several devices; so many answers were seen before.
 fn walk_forked(
     alloc: Global,
-    head: &Head<'_>,
+    sights: &Sights<'_>,
     from: usize,
     way: Way,
     before: usize,
 ) -> Result<Verdict, AllocError>
     requires read { (observed : List (Action × Seen))
-        × AreRead (map view head.now.steps.now) observed
-        × AreFollowed head.now.caps head.now.capacity (take from observed) from (way ∷ [])
+        × AreRead (steps_counted sights.now) observed
+        × AreFollowed sights.now.head.now.caps sights.now.head.now.capacity (take from observed)
+        from (way ∷ [])
         × (before ≡ seen_count (take from observed)) }
     requires counted { before ≤ from }
-    requires inside { from ≤ length head.now.steps.now }
+    requires inside { from ≤ length sights.now.head.now.steps.now }
     ensures { IfOk result
-        (λ verdict. IsVerdict head.now.caps head.now.capacity (map view head.now.steps.now)
-        verdict.fault (string_bytes verdict.text)) }
+        (λ verdict. IsVerdict sights.now.head.now.caps sights.now.head.now.capacity
+        (steps_counted sights.now) verdict.fault (string_bytes verdict.text)) }
 {
     let mut answers = before;
     let mut ways = vec![in alloc; way]?;
-    for i in from..head.steps.len() {
-        let step = &head.steps[i];
-        let Some((action, seen)) = parse_step(step) else {
+    for i in from..sights.head.steps.len() {
+        let Some((action, seen)) = step_at(sights, i) else {
             unreachable!();
         };
-        let differs = walk_ways(alloc, head, i, &mut ways, action, &seen)?;
+        let differs = walk_ways(alloc, sights, i, &mut ways, action, &seen)?;
         if let Some(text) = differs {
             let fault = Some(ScenarioFault::Differs(i as u64));
             return Ok(Verdict {
@@ -125,7 +127,7 @@ fn walk_forked(
         let more = count_more(answers, &seen);
         answers = more;
     }
-    let text = conforms_text(alloc, head.steps.len(), answers)?;
+    let text = conforms_text(alloc, sights.head.steps.len(), answers)?;
     Ok(Verdict {
         text,
         fault: None,
@@ -133,23 +135,23 @@ fn walk_forked(
     })
 }
 
-/// What is told of a run of the step objects on a new device.
+/// What is told of a run of the step objects on a new device, by what counts as seen of them.
 ///
 /// One device is followed up to the first step that more than one queue may have been taken at.
-pub fn walk_steps(alloc: Global, head: &Head<'_>) -> Result<Verdict, AllocError>
-    requires { AreAllRead (map view head.now.steps.now) }
+pub fn walk_counted(alloc: Global, sights: &Sights<'_>) -> Result<Verdict, AllocError>
+    requires { AreAllRead (steps_counted sights.now) }
     ensures { IfOk result
-        (λ verdict. IsVerdict head.now.caps head.now.capacity (map view head.now.steps.now)
-        verdict.fault (string_bytes verdict.text)) }
+        (λ verdict. IsVerdict sights.now.head.now.caps sights.now.head.now.capacity
+        (steps_counted sights.now) verdict.fault (string_bytes verdict.text)) }
 {
-    let mut way = first_way(alloc, head)?;
+    let mut way = first_way(alloc, sights.head)?;
     let mut answers = 0;
-    for (i, step) in head.steps.iter().enumerate() {
-        let Some((action, seen)) = parse_step(step) else {
+    for i in 0..sights.head.steps.len() {
+        let Some((action, seen)) = step_at(sights, i) else {
             unreachable!();
         };
         if is_fork(alloc, &way, action, &seen)? {
-            return walk_forked(alloc, head, i, way, answers);
+            return walk_forked(alloc, sights, i, way, answers);
         }
         let differs = walk_step(alloc, &mut way, action, &seen)?;
         if let Some(told) = differs {
@@ -158,10 +160,24 @@ pub fn walk_steps(alloc: Global, head: &Head<'_>) -> Result<Verdict, AllocError>
         let more = count_more(answers, &seen);
         answers = more;
     }
-    let text = conforms_text(alloc, head.steps.len(), answers)?;
+    let text = conforms_text(alloc, sights.head.steps.len(), answers)?;
     Ok(Verdict {
         text,
         fault: None,
         way: Some(way),
     })
+}
+
+/// What is told of a run of the step objects on a new device.
+pub fn walk_steps(alloc: Global, head: &Head<'_>) -> Result<Verdict, AllocError>
+    requires { AreAllRead (map view head.now.steps.now) }
+    ensures { IfOk result
+        (λ verdict. IsVerdict head.now.caps head.now.capacity (map view head.now.steps.now)
+        verdict.fault (string_bytes verdict.text)) }
+{
+    let sights = Sights {
+        head: &*head,
+        left_out: &[],
+    };
+    walk_counted(alloc, &sights)
 }

@@ -1,7 +1,6 @@
 //! A device that answers as was seen, and others like it that take from other queues.
 
 ghost use Rattle.std.specs.Prelude.{◌≡◌, ◌++◌, ◌∷◌, [], ◌+◌, ◌==◌, ◌≤◌, ℕ, List, Ok, Some, true, false, OnOk, IfOk, map, take, length, min, cond, is_some};
-ghost use Rattle.serde_json.specs.View.{view};
 ghost use Rattle.dsa_scenario.specs.declared.actions.Action.{Action};
 ghost use Rattle.dsa_scenario.specs.Run.{answered_by, Leads};
 ghost use Rattle.dsa_book.specs.Work.{qualifies};
@@ -9,12 +8,14 @@ ghost use Rattle.dsa_conform.specs.Allowed.{offer};
 ghost use Rattle.dsa_conform.specs.Seen.{Seen, seen_as};
 ghost use Rattle.dsa_conform.specs.Run.{AreAllRead, IsFollowedTo};
 ghost use Rattle.dsa_conform.specs.AsSeen.{IsStepMade};
+ghost use Rattle.dsa_conform.specs.Sights.{steps_counted};
 ghost use Rattle.dsa_conform.specs.Ways.{IsWayBy, queue_of_reply, queue_of_record, queues_taken};
 ghost use Rattle.dsa_regs.specs.declared.Caps.{Caps};
 ghost use Rattle.dsa_book.specs.declared.event.Event.TheVariants as event;
 
-use crate::observed::{Observed, parse_step};
+use crate::observed::Observed;
 use crate::shown::is_shown;
+use crate::sights::{Sights, step_at};
 use dsa_book::{DispatchAnswer, Event, Reply, Step, Ticket};
 use dsa_cells::LinkedStore;
 use dsa_device::Device;
@@ -167,21 +168,20 @@ fn took_from(alloc: Global, way: &Way, choices: &[u16]) -> Result<bool, AllocErr
 /// A device that goes the first steps as they were seen, and takes from these queues in turn.
 pub fn walk_again(
     alloc: Global,
-    head: &Head<'_>,
+    sights: &Sights<'_>,
     count: usize,
     choices: &[u16],
 ) -> Result<Way, AllocError>
-    requires inside { count ≤ length head.now.steps.now }
-    requires read { AreAllRead (map view head.now.steps.now) }
+    requires inside { count ≤ length sights.now.head.now.steps.now }
+    requires read { AreAllRead (steps_counted sights.now) }
     ensures { IfOk result
-        (λ way. IsWayBy head.now.caps head.now.capacity (map view head.now.steps.now) count
-        choices.now way) }
+        (λ way. IsWayBy sights.now.head.now.caps sights.now.head.now.capacity
+        (steps_counted sights.now) count choices.now way) }
 {
-    let mut way = first_way(alloc, head)?;
+    let mut way = first_way(alloc, sights.head)?;
     let mut taken = 0;
     for i in 0..count {
-        let step = &head.steps[i];
-        let Some((action, seen)) = parse_step(step) else {
+        let Some((action, seen)) = step_at(sights, i) else {
             unreachable!();
         };
         let queue = choices.get(taken).copied();

@@ -1,18 +1,19 @@
 //! A step of several devices that answer as was seen so far.
 
 ghost use Rattle.std.specs.Prelude.{◌≡◌, ◌+◌, ◌<◌, [], ◌∷◌, ◌++◌, true, false, OnOk, IfOk, map, length, option_map, string_bytes};
-ghost use Rattle.serde_json.specs.View.{view};
 ghost use Rattle.dsa_conform.specs.Seen.{seen_as};
 ghost use Rattle.dsa_conform.specs.Run.{AreAllRead};
+ghost use Rattle.dsa_conform.specs.Sights.{steps_counted};
 ghost use Rattle.dsa_conform.specs.Ways.{AreAdded, AreGoneOn, AreOn, IsAdded, IsAmong, IsGoneOn, IsWayBy};
 
 use crate::alike::is_alike;
 use crate::observed::Observed;
 use crate::offering::fork;
+use crate::sights::Sights;
 use crate::step::walk_step;
 use crate::told::{Told, told_text};
 use crate::way::{Way, queues_taken, walk_again};
-use dsa_scenario::{Action, Head, event_for};
+use dsa_scenario::{Action, event_for};
 use std::alloc::{AllocError, Global};
 use std::mem;
 
@@ -43,39 +44,41 @@ fn add_way(ways: &mut Vec<Way>, way: Way) -> Result<(), AllocError>
 // A device that takes from the queue in this step, and before from those that are in `choices`.
 fn way_by(
     alloc: Global,
-    head: &Head<'_>,
+    sights: &Sights<'_>,
     number: usize,
     choices: &[u16],
     queue: u16,
 ) -> Result<Way, AllocError>
-    requires inside { number < length head.now.steps.now }
-    requires read { AreAllRead (map view head.now.steps.now) }
+    requires inside { number < length sights.now.head.now.steps.now }
+    requires read { AreAllRead (steps_counted sights.now) }
     ensures { IfOk result
-        (λ way. IsWayBy head.now.caps head.now.capacity (map view head.now.steps.now)
-        (number + 1) (choices.now ++ queue ∷ []) way) }
+        (λ way. IsWayBy sights.now.head.now.caps sights.now.head.now.capacity
+        (steps_counted sights.now) (number + 1) (choices.now ++ queue ∷ []) way) }
 {
     let mut queues = Vec::from_slice(alloc, choices)?;
     queues.push(queue)?;
-    walk_again(alloc, head, number + 1, queues.as_slice())
+    let steps = sights.head.steps.len();
+    prove!(number < steps);
+    walk_again(alloc, sights, number + 1, queues.as_slice())
 }
 
 // Adds a device for each of these queues.
 fn add_forks(
     alloc: Global,
-    head: &Head<'_>,
+    sights: &Sights<'_>,
     number: usize,
     choices: &[u16],
     queues: &[u16],
     ways: &mut Vec<Way>,
 ) -> Result<(), AllocError>
-    requires inside { number < length head.now.steps.now }
-    requires read { AreAllRead (map view head.now.steps.now) }
+    requires inside { number < length sights.now.head.now.steps.now }
+    requires read { AreAllRead (steps_counted sights.now) }
     ensures { OnOk result
-        (AreAdded head.now.caps head.now.capacity (map view head.now.steps.now) number choices.now
-        queues.now ways.old.items ways.new.items) }
+        (AreAdded sights.now.head.now.caps sights.now.head.now.capacity (steps_counted sights.now)
+        number choices.now queues.now ways.old.items ways.new.items) }
 {
     for queue in queues {
-        let way = way_by(alloc, head, number, choices, *queue)?;
+        let way = way_by(alloc, sights, number, choices, *queue)?;
         add_way(ways, way)?;
     }
     Ok(())
@@ -84,7 +87,7 @@ fn add_forks(
 // One step of one device, by each queue that it may take from.
 fn go_on(
     alloc: Global,
-    head: &Head<'_>,
+    sights: &Sights<'_>,
     number: usize,
     mut way: Way,
     action: Action,
@@ -92,10 +95,10 @@ fn go_on(
     ways: &mut Vec<Way>,
     tolds: &mut Vec<Told>,
 ) -> Result<(), AllocError>
-    requires inside { number < length head.now.steps.now }
-    requires read { AreAllRead (map view head.now.steps.now) }
+    requires inside { number < length sights.now.head.now.steps.now }
+    requires read { AreAllRead (steps_counted sights.now) }
     ensures { OnOk result
-        (IsGoneOn head.now.caps head.now.capacity (map view head.now.steps.now)
+        (IsGoneOn sights.now.head.now.caps sights.now.head.now.capacity (steps_counted sights.now)
         (action, seen_as seen.now) number way ways.old.items tolds.old.items ways.new.items
         tolds.new.items) }
 {
@@ -105,7 +108,7 @@ fn go_on(
         let choices = queues_taken(alloc, way.device.history())?;
         return add_forks(
             alloc,
-            head,
+            sights,
             number,
             choices.as_slice(),
             queues.as_slice(),
@@ -122,24 +125,25 @@ fn go_on(
 // One step of these devices, one after the other.
 fn go_all(
     alloc: Global,
-    head: &Head<'_>,
+    sights: &Sights<'_>,
     number: usize,
     mut old: Vec<Way>,
     action: Action,
     seen: &Observed<'_>,
     ways: &mut Vec<Way>,
 ) -> Result<Vec<Told>, AllocError>
-    requires inside { number < length head.now.steps.now }
-    requires read { AreAllRead (map view head.now.steps.now) }
+    requires inside { number < length sights.now.head.now.steps.now }
+    requires read { AreAllRead (steps_counted sights.now) }
     requires none { ways.old.items ≡ [] }
     ensures { IfOk result
-        (λ tolds. AreGoneOn head.now.caps head.now.capacity (map view head.now.steps.now)
-        (action, seen_as seen.now) number old.items ways.new.items tolds.items) }
+        (λ tolds. AreGoneOn sights.now.head.now.caps sights.now.head.now.capacity
+        (steps_counted sights.now) (action, seen_as seen.now) number old.items ways.new.items
+        tolds.items) }
 {
     let mut tolds = Vec::new(alloc);
     while !old.as_slice().is_empty() {
         let way = old.remove(0);
-        go_on(alloc, head, number, way, action, seen, ways, &mut tolds)?;
+        go_on(alloc, sights, number, way, action, seen, ways, &mut tolds)?;
     }
     Ok(tolds)
 }
@@ -147,21 +151,21 @@ fn go_all(
 /// One step of all devices that are followed, and what is told where none of them goes on.
 pub fn walk_ways(
     alloc: Global,
-    head: &Head<'_>,
+    sights: &Sights<'_>,
     number: usize,
     ways: &mut Vec<Way>,
     action: Action,
     seen: &Observed<'_>,
 ) -> Result<Option<String>, AllocError>
-    requires inside { number < length head.now.steps.now }
-    requires read { AreAllRead (map view head.now.steps.now) }
+    requires inside { number < length sights.now.head.now.steps.now }
+    requires read { AreAllRead (steps_counted sights.now) }
     ensures { IfOk result
-        (λ differs. AreOn head.now.caps head.now.capacity (map view head.now.steps.now)
-        (action, seen_as seen.now) number ways.old.items ways.new.items
+        (λ differs. AreOn sights.now.head.now.caps sights.now.head.now.capacity
+        (steps_counted sights.now) (action, seen_as seen.now) number ways.old.items ways.new.items
         (option_map string_bytes differs)) }
 {
     let old = mem::replace(ways, Vec::new(alloc));
-    let tolds = go_all(alloc, head, number, old, action, seen, ways)?;
+    let tolds = go_all(alloc, sights, number, old, action, seen, ways)?;
     if !ways.as_slice().is_empty() {
         return Ok(None);
     }

@@ -1,11 +1,11 @@
 -- One moment more.
 use Rattle.std.proofs.Common.{List, [], ◌∷◌, ◌++◌}
-use Rattle.dsa_scenario.specs.Steps.{Visit}
+use Rattle.dsa_named.specs.Steps.{NamedVisit}
 use Rattle.dsa_draw.specs.{declared.moment.Moment.{Moment}, Moments.{IsMomentOf}, Drawings.{AreMoments}}
 
 -- one moment more, of one step more
-pub AreMoments-push : (steps : List Visit) (moments : List Moment) (step : Visit) (moment : Moment)
-    → AreMoments steps moments → IsMomentOf step.number step.after step.entry moment
+pub AreMoments-push : (steps : List NamedVisit) (moments : List Moment) (step : NamedVisit) (moment : Moment)
+    → AreMoments steps moments → IsMomentOf step moment
     → AreMoments (steps ++ step ∷ []) (moments ++ moment ∷ [])
 AreMoments-push [] [] step moment h is = (is, tt)
 AreMoments-push [] (m ∷ ms) step moment h is = absurd h

@@ -1,25 +1,27 @@
 -- The columns of a drawing, as text: one for each step, with what it was asked and what it answered.
 use Rattle.std.specs.Prelude.{ℕ, ◌+◌, ◌-◌, ◌*◌, ◌%◌, ◌==◌, cond, List, [], ◌∷◌, ◌++◌, codes, decimal}
-use Rattle.dsa_event_text.specs.Text.{bad_word_text, event_text}
-use Rattle.dsa_scenario.specs.{declared.run.Record.{Record, TheVariants.{Stepped, Refused}}, Lines.{record_text}}
-use Rattle.dsa_draw.specs.{declared.moment.Moment.{Moment}, Bands.{next_step}, Pages.{rect_text}}
+use Rattle.std.specs.Prelude.{string_bytes}
+use Rattle.dsa_scenario.specs.Lines.{record_text}
+use Rattle.dsa_explain_lines.specs.Lines.{asked_words, shown}
+use Rattle.dsa_draw.specs.{declared.moment.Moment.{Moment}, Bands.{next_step}, Pages.{rect_text, xml_text}}
 
--- what was asked; a word that is no command is no event (profile)
-abbrev pub asked_text : Record → List ℕ
-asked_text (Stepped step) = event_text step.event
-asked_text (Refused refused) = bad_word_text refused.word
+-- a step as the line of an explanation has it, behind its number: what was asked and answered, why, and the own names
+-- of the entries that it mentions (profile)
+abbrev pub step_words : Moment → List ℕ
+step_words moment =
+    asked_words moment.entry ++ codes " -> " ++ record_text moment.entry
+    ++ shown (string_bytes moment.reason) moment.entry ++ string_bytes moment.note
 
 -- ---- columns
 
--- the title of a column: the step's number, what it was asked, and its line
-unfoldable pub title_text : ℕ → Record → List ℕ
-title_text step entry =
-    codes "step " ++ decimal step ++ codes ": " ++ asked_text entry ++ codes ": " ++ record_text entry
+-- the title of a column: the step's number and its words
+unfoldable pub title_text : Moment → List ℕ
+title_text moment = codes "step " ++ decimal moment.number ++ codes ": " ++ xml_text (step_words moment)
 
 -- a column on a page that is so high
 abbrev pub column_text : ℕ → ℕ → Moment → List ℕ
 column_text height column moment =
-    rect_text (codes "column") column 80 14 (height - 80) ++ codes "><title>" ++ title_text moment.number moment.entry
+    rect_text (codes "column") column 80 14 (height - 80) ++ codes "><title>" ++ title_text moment
     ++ codes "</title></rect>\n"
 
 -- a line, and the number of the step behind it

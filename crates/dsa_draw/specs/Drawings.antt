@@ -2,22 +2,22 @@
 use Rattle.std.specs.Prelude.{◌≡◌, ℕ, ◌-◌, ◌^◌, min, List, [], ◌∷◌, ◌++◌, length, ⊤}
 use Rattle.std.specs.List.{range_with_len}
 use Rattle.dsa_device.specs.Running.{Running}
-use Rattle.dsa_scenario.specs.Steps.{Visit, IsTextOfDocument}
+use Rattle.dsa_named.specs.Steps.{NamedVisit, IsNamedText}
 use Rattle.dsa_draw.specs.{Bands.{bands_text, bands_end, bands_of}, Columns.{columns_text}, Moments.{IsMomentOf}}
 use Rattle.dsa_draw.specs.{Pages.{head_text, foot_text, legend_text}, Rows.{rows_above_text}, Bars.{bars_of}}
 use Rattle.dsa_draw.specs.{Engines.{engines_text, engines_end}, Ranges.{columns_of, moments_in, within}}
 use Rattle.dsa_draw.specs.declared.{moment.Moment.{Moment}, range.{Extent.{Extent}, StepRange.{StepRange}}, run.Story.{Story}}
 
--- there is a moment for each of these steps: of its record, and of how the device stands after it
-abbrev pub AreMoments : List Visit → List Moment → Type 0
+-- there is a moment for each of these steps, in order
+abbrev pub AreMoments : List NamedVisit → List Moment → Type 0
 AreMoments [] [] = ⊤
 AreMoments [] (moment ∷ moments) = ⊥
 AreMoments (step ∷ steps) [] = ⊥
 AreMoments (step ∷ steps) (moment ∷ moments) =
-    IsMomentOf step.number step.after step.entry moment × AreMoments steps moments
+    IsMomentOf step moment × AreMoments steps moments
 
 -- the story is of these steps, and of how the device stands at last
-pub record IsStoryOf (steps : List Visit) (last : Running) (story : Story) : Type 0 where
+pub record IsStoryOf (steps : List NamedVisit) (last : Running) (story : Story) : Type 0 where
   pub caps : story.caps ≡ last.caps
   pub each : AreMoments steps story.moments.items
   pub fates : story.fates.items ≡ last.state.work.fates
@@ -68,9 +68,9 @@ abbrev pub IsTextOf : StepRange → Story → List ℕ → Type 0
 IsTextOf range story text = text ≡ drawing_text range story
 
 -- the text is drawn of those of these steps, and of how the device stands at last
-abbrev pub IsDrawnOf : StepRange → List Visit → Running → List ℕ → Type 0
+abbrev pub IsDrawnOf : StepRange → List NamedVisit → Running → List ℕ → Type 0
 IsDrawnOf range steps last text = (story : Story) × IsStoryOf steps last story × IsTextOf range story text
 
--- the bytes are a document without a fault, and the text is a drawing of a run of it
+-- the bytes are a document without a fault, and the text is a drawing of a run of it, with the own names of its steps
 abbrev pub IsDrawingOf : StepRange → List ℕ → List ℕ → Type 0
-IsDrawingOf range bytes text = IsTextOfDocument (IsDrawnOf range) bytes text
+IsDrawingOf range bytes text = IsNamedText (IsDrawnOf range) bytes text

@@ -1,6 +1,7 @@
 -- The rows of the engines, as text: a mark for each step of an engine, and a bar for each entry that it had.
 use Rattle.std.specs.Prelude.{ℕ, ◌+◌, ◌-◌, ◌*◌, ◌^◌, ◌==◌, ◌&&◌, Bool, true, false, cond, nat_lt, min, List, [], ◌∷◌}
-use Rattle.std.specs.Prelude.{◌++◌, codes, decimal, Option, Some, None, is_some, option_and_then, unwrap_or}
+use Rattle.std.specs.Prelude.{◌++◌, codes, decimal, Option, Some, None, option_and_then, option_map, slice_get}
+use Rattle.std.specs.Prelude.{string_bytes, unwrap_or}
 use Rattle.dsa_desc.specs.declared.Descriptor.{Descriptor}
 use Rattle.dsa_event_text.specs.Text.{descriptor_text}
 use Rattle.dsa_book.specs.declared.event.Actor.TheVariants.{Engine}
@@ -10,7 +11,7 @@ use Rattle.dsa_scenario.specs.declared.run.Record.{Record, TheVariants.{Stepped,
 use Rattle.dsa_scenario.specs.Lines.{two_digits}
 use Rattle.dsa_draw.specs.declared.{engines.Lanes.{Lanes}, labels.{Sign.{Sign, TheVariants.{Cross, Slash}}}}
 use Rattle.dsa_draw.specs.declared.{bars.{Bar.{Bar}, End.{End}}, moment.Moment.{Moment}}
-use Rattle.dsa_draw.specs.{Marks.{mark_of}, Bands.{again_text, next_step, lower_end, numbered_text}, Pages.{box_text, mark_text, rect_text, rule_text}}
+use Rattle.dsa_draw.specs.{Marks.{mark_of}, Bands.{again_text, next_step, lower_end, numbered_text}, Pages.{box_text, mark_text, rect_text, rule_text, xml_text}}
 use Rattle.dsa_draw.specs.Labels.{bar_label_text, sign_of}
 use Rattle.dsa_draw.specs.declared.range.Extent.{Extent}
 use Rattle.dsa_draw.specs.Ranges.{column_of, columns_of, is_in_range, moments_in}
@@ -69,23 +70,46 @@ abbrev pub parent_phrase : Option ℕ → List ℕ
 parent_phrase None = []
 parent_phrase (Some batch) = codes ", member of batch " ++ decimal batch
 
-abbrev pub end_phrase : Option End → List ℕ
-end_phrase None = codes ", still held"
-end_phrase (Some end) = codes " to " ++ decimal end.step ++ codes ": " ++ fate_phrase end.fate
+-- the reason of the answer to a step
+abbrev pub bar_reason_text : Option Moment → List ℕ
+bar_reason_text None = []
+bar_reason_text (Some moment) = xml_text (string_bytes moment.reason)
 
--- what the bar is of
-abbrev pub entry_phrase : Bar → List ℕ
-entry_phrase bar =
-    kind_phrase bar.is_batch ++ decimal bar.name ++ work_phrase bar.desc ++ client_phrase bar.client
+-- why an entry completed so: the reason of the step that ended it. A success has none
+abbrev pub completion_reason : List Moment → ℕ → Fate → List ℕ
+completion_reason moments step (Completed status) = bar_reason_text (slice_get moments step)
+completion_reason moments step fate = []
+
+abbrev pub end_phrase : List Moment → Option End → List ℕ
+end_phrase moments None = codes ", still held"
+end_phrase moments (Some end) =
+    codes " to " ++ decimal end.step ++ codes ": " ++ fate_phrase end.fate
+    ++ completion_reason moments end.step end.fate
+
+-- the own name of the entry, as the step tells it that brought it to the engine (profile)
+abbrev pub own_at : List Moment → ℕ → Option (List ℕ)
+own_at moments step =
+    option_and_then (λ moment. option_map string_bytes moment.own) (slice_get moments step)
+
+abbrev pub own_phrase : Option (List ℕ) → List ℕ
+own_phrase None = []
+own_phrase (Some text) = codes " is " ++ xml_text text
+
+-- what the bar is of, an entry with this own name
+abbrev pub entry_phrase : Option (List ℕ) → Bar → List ℕ
+entry_phrase own bar =
+    kind_phrase bar.is_batch ++ decimal bar.name ++ own_phrase own ++ work_phrase bar.desc ++ client_phrase bar.client
     ++ parent_phrase bar.parent
 
 -- from where to where it goes, and how it ended
-abbrev pub steps_phrase : Bar → List ℕ
-steps_phrase bar =
-    codes ", on e" ++ decimal bar.engine ++ codes " from step " ++ decimal bar.begin ++ end_phrase bar.end
+abbrev pub steps_phrase : List Moment → Bar → List ℕ
+steps_phrase moments bar =
+    codes ", on e" ++ decimal bar.engine ++ codes " from step " ++ decimal bar.begin ++ end_phrase moments bar.end
 
-unfoldable pub bar_title_text : Bar → List ℕ
-bar_title_text bar = codes "<title>" ++ entry_phrase bar ++ steps_phrase bar ++ codes "</title>"
+-- of a bar of the run with these moments
+unfoldable pub bar_title_text : List Moment → Bar → List ℕ
+bar_title_text moments bar =
+    codes "<title>" ++ entry_phrase (own_at moments bar.begin) bar ++ steps_phrase moments bar ++ codes "</title>"
 
 abbrev pub box_part_text : List ℕ → ℕ → ℕ → ℕ → List ℕ
 box_part_text class begin end y = cond (nat_lt begin end) (box_text class begin end y) []
@@ -113,21 +137,22 @@ lane_by lanes lane (Some batch) = lower_end lanes.taken lane
 abbrev pub bar_top : Lanes → Bar → ℕ
 bar_top lanes bar = lanes.top + 13 * lane_by lanes bar.lane bar.parent
 
--- a box until it starts, a box until it ends, its label, and a sign at its end
-abbrev pub boxes_in_columns : Bar → ℕ → ℕ → ℕ → ℕ → List ℕ
-boxes_in_columns bar begin runs end y =
+-- a box until it starts, a box until it ends, its label with this own name, and a sign at its end
+abbrev pub boxes_in_columns : Bar → Option (List ℕ) → ℕ → ℕ → ℕ → ℕ → List ℕ
+boxes_in_columns bar own begin runs end y =
     box_part_text (codes "waits") begin runs y ++ box_part_text (class_of_end bar.end) runs end y
-    ++ bar_label_text bar begin end (y + 9) ++ end_sign_text (sign_of bar.end) end (y + 4)
+    ++ bar_label_text bar own begin end (y + 9) ++ end_sign_text (sign_of bar.end) end (y + 4)
 
-abbrev pub boxes_text : Extent → Bar → ℕ → List ℕ
-boxes_text extent bar y =
-    boxes_in_columns bar (column_of extent.range bar.begin)
+abbrev pub boxes_text : Extent → Bar → Option (List ℕ) → ℕ → List ℕ
+boxes_text extent bar own y =
+    boxes_in_columns bar own (column_of extent.range bar.begin)
     (column_of extent.range (unwrap_or bar.started (end_step extent.last bar)))
     (column_of extent.range (end_step extent.last bar)) y
 
-abbrev pub bar_text : Lanes → Bar → List ℕ
-bar_text lanes bar =
-    codes "<g>" ++ bar_title_text bar ++ boxes_text lanes.extent bar (bar_top lanes bar) ++ codes "</g>\n"
+abbrev pub bar_text : Lanes → List Moment → Bar → List ℕ
+bar_text lanes moments bar =
+    codes "<g>" ++ bar_title_text moments bar
+    ++ boxes_text lanes.extent bar (own_at moments bar.begin) (bar_top lanes bar) ++ codes "</g>\n"
 
 -- the engine had it, in a step that is drawn
 abbrev pub is_shown : ℕ → Extent → Bar → Bool
@@ -135,10 +160,10 @@ is_shown engine extent bar =
     bar.engine == engine && is_in_range extent.range bar.begin (end_step extent.last bar)
 
 -- each bar of the engine
-abbrev pub bars_text : ℕ → Lanes → List Bar → List ℕ
-bars_text engine lanes [] = []
-bars_text engine lanes (bar ∷ bars) =
-    cond (is_shown engine lanes.extent bar) (bar_text lanes bar) [] ++ bars_text engine lanes bars
+abbrev pub bars_text : ℕ → Lanes → List Moment → List Bar → List ℕ
+bars_text engine lanes moments [] = []
+bars_text engine lanes moments (bar ∷ bars) =
+    cond (is_shown engine lanes.extent bar) (bar_text lanes moments bar) [] ++ bars_text engine lanes moments bars
 
 -- ---- batches
 
@@ -199,7 +224,7 @@ abbrev pub engine_rows_text : ℕ → ℕ → List Moment → Lanes → List Bar
 engine_rows_text engine top moments lanes bars =
     engine_name_text engine (columns_of lanes.extent) top
     ++ engine_marks_text engine top 0 (moments_in lanes.extent.range moments) ++ batches_text engine lanes bars
-    ++ bars_text engine lanes bars ++ rule_text (columns_of lanes.extent) (engine_bottom lanes)
+    ++ bars_text engine lanes moments bars ++ rule_text (columns_of lanes.extent) (engine_bottom lanes)
 
 -- of an engine that made no step there is no text, and the next one is in its place
 abbrev pub engine_part_text : ℕ → Extent → ℕ → List Moment → List Bar → List ℕ

@@ -1,12 +1,13 @@
 -- The labels of bars, as text, and the signs at their ends.
 use Rattle.std.specs.Prelude.{ℕ, ◌+◌, ◌-◌, ◌*◌, ◌/◌, ◌==◌, Bool, cond, nat_le, List, [], ◌++◌, length, codes, decimal}
 use Rattle.std.specs.Prelude.{Option, Some, None, is_some, option_and_then}
+use Rattle.std.specs.Option.{option_or}
 use Rattle.dsa_desc.specs.declared.Descriptor.{Descriptor}
 use Rattle.dsa_book.specs.declared.fate.Fate.{Fate, TheVariants.{Completed}}
 use Rattle.dsa_event_text.specs.Text.{operation_label}
 use Rattle.dsa_draw.specs.declared.labels.{Sign.{Sign, TheVariants.{Cross, Slash}}}
 use Rattle.dsa_draw.specs.declared.labels.{Detail.{Detail, TheVariants.{Name, Operation, Pasid}}}
-use Rattle.dsa_draw.specs.{declared.bars.{Bar.{Bar}, End.{End}}, Pages.{letters_text}}
+use Rattle.dsa_draw.specs.{declared.bars.{Bar.{Bar}, End.{End}}, Pages.{letters_text, xml_text}}
 
 -- ---- signs
 
@@ -29,11 +30,15 @@ abbrev pub pasid_part : Option Descriptor → List ℕ
 pasid_part None = []
 pasid_part (Some desc) = codes " PASID " ++ decimal desc.pasid
 
--- the name of the entry, with its operation, and with its PASID too
-abbrev pub label_with : Detail → Bar → List ℕ
-label_with Name bar = decimal bar.name
-label_with Operation bar = decimal bar.name ++ operation_part bar.desc
-label_with Pasid bar = decimal bar.name ++ operation_part bar.desc ++ pasid_part bar.desc
+abbrev pub own_part : Option (List ℕ) → List ℕ
+own_part None = []
+own_part (Some text) = codes " " ++ text
+
+-- the name of the entry and this own name, with its operation, and with its PASID too
+abbrev pub label_with : Option (List ℕ) → Detail → Bar → List ℕ
+label_with own Name bar = decimal bar.name ++ own_part own
+label_with own Operation bar = decimal bar.name ++ own_part own ++ operation_part bar.desc
+label_with own Pasid bar = decimal bar.name ++ own_part own ++ operation_part bar.desc ++ pasid_part bar.desc
 
 -- how many letters have room: each is 6 wide, and 2 before the first are left free
 abbrev pub letters_in : ℕ → ℕ
@@ -46,14 +51,24 @@ sign_letters end = cond (is_some (sign_of end)) 1 0
 abbrev pub is_fitting : ℕ → Bar → List ℕ → Bool
 is_fitting wide bar label = nat_le (length label + sign_letters bar.end) (letters_in wide)
 
--- the label, where there is room for it, and else what follows
-abbrev pub fitting_text : Bar → ℕ → ℕ → ℕ → Detail → List ℕ → List ℕ
-fitting_text bar begin end base detail else =
-    cond (is_fitting (14 * (end - begin)) bar (label_with detail bar))
-    (letters_text begin base (label_with detail bar)) else
+-- a label, where so much room is enough for it, and else what follows
+abbrev pub fitting_label : ℕ → Bar → List ℕ → Option (List ℕ) → Option (List ℕ)
+fitting_label wide bar label else = cond (is_fitting wide bar label) (Some label) else
 
--- the longest label that the bar over these columns has room for
-abbrev pub bar_label_text : Bar → ℕ → ℕ → ℕ → List ℕ
-bar_label_text bar begin end base =
-    fitting_text bar begin end base Pasid
-    (fitting_text bar begin end base Operation (fitting_text bar begin end base Name []))
+-- the longest label with this own name that there is room for
+abbrev pub longest_label : ℕ → Bar → Option (List ℕ) → Option (List ℕ)
+longest_label wide bar own =
+    fitting_label wide bar (label_with own Pasid bar)
+    (fitting_label wide bar (label_with own Operation bar) (fitting_label wide bar (label_with own Name bar) None))
+
+-- and without it, where there is room for none with it (profile)
+abbrev pub label_of : ℕ → Bar → Option (List ℕ) → Option (List ℕ)
+label_of wide bar own = option_or (longest_label wide bar own) (longest_label wide bar None)
+
+abbrev pub label_shown : ℕ → ℕ → Option (List ℕ) → List ℕ
+label_shown step base None = []
+label_shown step base (Some label) = letters_text step base (xml_text label)
+
+-- the label of a bar over these columns, whose entry has this own name
+unfoldable pub bar_label_text : Bar → Option (List ℕ) → ℕ → ℕ → ℕ → List ℕ
+bar_label_text bar own begin end base = label_shown begin base (label_of (14 * (end - begin)) bar own)

@@ -1,8 +1,21 @@
 -- Pieces of a page, as text: its head and its foot, names, lines and marks.
-use Rattle.std.specs.Prelude.{ℕ, ◌+◌, ◌-◌, ◌*◌, ◌==◌, cond, List, ◌++◌, codes, decimal}
+use Rattle.std.specs.Prelude.{ℕ, ◌+◌, ◌-◌, ◌*◌, ◌==◌, cond, List, ◌++◌, codes, decimal, flat_map}
+use Rattle.std.specs.{Str.{chars}, Char.{encode_utf8}}
 use Rattle.dsa_event_text.specs.Text.{count_text}
 use Rattle.dsa_draw.specs.{Bands.{lower_end}, Ranges.{columns_of}, declared.range.Extent.{Extent}}
 use Rattle.dsa_draw.specs.declared.{page.TheConstants.{STYLE, DESCRIPTION, LEGEND}, marks.Mark.{Mark, TheVariants.{Done, Wait, Failed}}}
+
+-- ---- texts
+
+-- a character in XML: `&`, `<` and `>` are entities (profile)
+abbrev pub xml_char : ℕ → List ℕ
+xml_char c =
+    cond (c == 38) (codes "&amp;") (cond (c == 60) (codes "&lt;") (cond (c == 62) (codes "&gt;") (encode_utf8 c)))
+
+-- a text in XML
+
+abbrev pub xml_text : List ℕ → List ℕ
+xml_text text = flat_map xml_char (chars text)
 
 -- ---- head and foot
 

@@ -3,7 +3,7 @@
 ghost use Rattle.std.specs.Prelude.{◌≡◌, ◌++◌, ◌==◌, cond, nat_lt, [], IfOk, OnOk, string_bytes};
 ghost use Rattle.std.specs.List.{range_with_len};
 ghost use Rattle.dsa_event_text.specs.Added.{Adds};
-ghost use Rattle.dsa_draw.specs.Columns.{asked_text, title_text, column_text, grid_text, label_text, step_number_text, fifth_text, columns_text};
+ghost use Rattle.dsa_draw.specs.Columns.{step_words, title_text, column_text, grid_text, label_text, step_number_text, fifth_text, columns_text};
 ghost use Rattle.dsa_draw.specs.Rows.{command_place_text, command_name_text, event_name_text, label_above_text, asker_of, asker_text, fate_mark, ended_head_text, ended_title_text, ended_text, fates_text, marks_of_step_text, marks_above_text, names_above_text, names_again_text, steps_above_text, rows_above_text};
 ghost use Rattle.dsa_draw.specs.{Engines.{engines_text, engines_end}, Pages.{small_number_text}};
 ghost use Rattle.dsa_draw.specs.Active.{waits_from, waits_text};
@@ -18,13 +18,14 @@ use crate::marks::{Mark, mark_of};
 use crate::moment::Moment;
 use crate::page::{
     add_again, add_foot, add_head, add_legend, add_mark, add_name, add_rect, add_rule,
-    add_small_number,
+    add_small_number, add_xml,
 };
 use crate::phases::{Holder, add_phases};
 use crate::range::{Extent, StepRange, ended_before, moments_in};
 use crate::run::Story;
 use dsa_book::{Actor, Event, Fate, FateRow};
-use dsa_event_text::{Added, add_bad_word, add_command, add_event};
+use dsa_event_text::{Added, add_command, add_number};
+use dsa_explain_lines::{add_asked, add_shown};
 use dsa_regs::Command;
 use dsa_scenario::{Record, add_answer, add_rows};
 use std::alloc::{AllocError, Global};
@@ -44,28 +45,33 @@ const BANDS: u32 = 190;
 
 // ---- columns
 
-fn add_asked(text: &mut String, entry: &Record) -> Added
-    ensures { Adds result text.old text.new (asked_text entry.now) }
+// The line of an explanation has a number before these words, and ends behind them.
+fn words_of(alloc: Global, moment: &Moment) -> Result<String, AllocError>
+    ensures { IfOk result (λ words. string_bytes words ≡ step_words moment.now) }
 {
-    match entry {
-        Record::Stepped(step) => add_event(text, &step.event),
-        Record::Refused(refused) => add_bad_word(text, refused.word),
-    }
+    let mut words = String::new(alloc);
+    add_asked(&mut words, &moment.entry)?;
+    words.push_str(" -> ")?;
+    add_answer(&mut words, &moment.entry)?;
+    add_shown(&mut words, &moment.entry, moment.reason.as_str())?;
+    words.pop();
+    words.push_str(moment.note.as_str())?;
+    Ok(words)
 }
 
 // The title of a column.
 #[tactic(auto, unfolding(crate::specs::Columns::title_text))]
-fn add_title(text: &mut String, entry: &Record, step: u32) -> Added
-    ensures { Adds result text.old text.new (title_text step entry.now) }
+fn add_title(alloc: Global, text: &mut String, moment: &Moment) -> Added
+    ensures { Adds result text.old text.new (title_text moment.now) }
 {
-    write!(text, "step {step}: ")?;
-    add_asked(text, entry)?;
+    let words = words_of(alloc, moment)?;
+    add_number(text, "step ", moment.number)?;
     text.push_str(": ")?;
-    add_answer(text, entry)
+    add_xml(text, words.as_str())
 }
 
 // A column has the step as its title.
-fn add_column(text: &mut String, moment: &Moment, column: u32, height: u32) -> Added
+fn add_column(alloc: Global, text: &mut String, moment: &Moment, column: u32, height: u32) -> Added
     ensures { Adds result text.old text.new (column_text height column moment.now) }
 {
     let high = height.saturating_sub(NUMBERS);
@@ -78,7 +84,7 @@ fn add_column(text: &mut String, moment: &Moment, column: u32, height: u32) -> A
         u64::from(high),
     )?;
     text.push_str("><title>")?;
-    add_title(text, &moment.entry, moment.number)?;
+    add_title(alloc, text, moment)?;
     write!(text, "</title></rect>\n")
 }
 
@@ -100,7 +106,7 @@ fn add_step_label(text: &mut String, step: u32, column: u32) -> Added
 }
 
 // A line, and the number of the step.
-fn add_number(text: &mut String, step: u32, column: u32, height: u32) -> Added
+fn add_step_number(text: &mut String, step: u32, column: u32, height: u32) -> Added
     ensures { Adds result text.old text.new (step_number_text height column step) }
 {
     add_grid(text, column, height)?;
@@ -112,19 +118,19 @@ fn add_fifth(text: &mut String, step: u32, column: u32, height: u32) -> Added
     ensures { Adds result text.old text.new (fifth_text height column step) }
 {
     if step % 5 == 0 {
-        add_number(text, step, column, height)
+        add_step_number(text, step, column, height)
     } else {
         Ok(())
     }
 }
 
-fn add_columns(text: &mut String, moments: &[Moment], height: u32) -> Added
+fn add_columns(alloc: Global, text: &mut String, moments: &[Moment], height: u32) -> Added
     ensures { Adds result text.old text.new (columns_text height 0 moments.now) }
 {
     let mut column = 0u32;
     for moment in moments {
         add_fifth(text, moment.number, column, height)?;
-        add_column(text, moment, column, height)?;
+        add_column(alloc, text, moment, column, height)?;
         column = column.saturating_add(1);
     }
     Ok(())
@@ -420,7 +426,7 @@ pub fn draw(alloc: Global, story: &Story, steps: StepRange) -> Result<String, Al
     add_foot(&mut below)?;
     let mut text = String::new(alloc);
     add_head(&mut text, extent, height)?;
-    add_columns(&mut text, shown, height)?;
+    add_columns(alloc, &mut text, shown, height)?;
     add_parts(&mut text, above.as_str(), bands.as_str(), below.as_str())?;
     Ok(text)
 }

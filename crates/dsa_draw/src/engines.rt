@@ -1,18 +1,18 @@
 //! Engines: what they asked for, and how long they had which entries.
 
-ghost use Rattle.std.specs.Prelude.{◌≡◌, ◌++◌, ◌<◌, ◌^◌, ◌==◌, ◌&&◌, [], cond, false, Some, IfOk, codes};
+ghost use Rattle.std.specs.Prelude.{◌≡◌, ◌++◌, ◌<◌, ◌^◌, ◌==◌, ◌&&◌, [], cond, false, Some, IfOk, codes, option_map, slice_get};
 ghost use Rattle.std.specs.Fmt.{digit_glyph};
 ghost use Rattle.dsa_event_text.specs.Added.{Adds};
 ghost use Rattle.dsa_scenario.specs.Lines.{two_digits};
 ghost use Rattle.dsa_draw.specs.Bars.{end_step};
-ghost use Rattle.dsa_draw.specs.Engines.{is_step_by, has_steps, engine_mark_text, engine_marks_text, class_of_fate, class_of_end, strokes_text, sign_text, end_sign_text, fate_phrase, kind_phrase, work_phrase, client_phrase, parent_phrase, end_phrase, entry_phrase, steps_phrase, bar_title_text, box_part_text, lane_by, bar_top, boxes_text, is_shown, bar_text, bars_text, lanes_bottom, batch_title_text, batch_text, batches_text, taken_in_lanes, bars_in_lanes, lanes_of, engine_bottom, engine_name_text, engine_rows_text, engine_part_text, engine_end};
+ghost use Rattle.dsa_draw.specs.Engines.{is_step_by, has_steps, engine_mark_text, engine_marks_text, class_of_fate, class_of_end, strokes_text, sign_text, end_sign_text, fate_phrase, kind_phrase, work_phrase, client_phrase, parent_phrase, bar_reason_text, completion_reason, end_phrase, own_at, own_phrase, entry_phrase, steps_phrase, bar_title_text, box_part_text, lane_by, bar_top, boxes_text, is_shown, bar_text, bars_text, lanes_bottom, batch_title_text, batch_text, batches_text, taken_in_lanes, bars_in_lanes, lanes_of, engine_bottom, engine_name_text, engine_rows_text, engine_part_text, engine_end};
 
 use crate::bars::{Bar, End, lay_bars};
 use crate::geometry::{column_left, columns_wide, lane_top};
 use crate::labels::{Sign, add_label, sign_of};
 use crate::marks::mark_of;
 use crate::moment::Moment;
-use crate::page::{add_again, add_box, add_mark, add_numbered, add_rect, add_rule};
+use crate::page::{add_again, add_box, add_mark, add_numbered, add_rect, add_rule, add_xml};
 use crate::range::{Extent, moments_in};
 use dsa_book::{Actor, Fate};
 use dsa_desc::Descriptor;
@@ -160,49 +160,88 @@ fn add_parent(text: &mut String, parent: Option<u32>) -> Added
     }
 }
 
-fn add_end(text: &mut String, end: End) -> Added
-    ensures { Adds result text.old text.new (end_phrase (Some end)) }
+fn add_reason(text: &mut String, moments: &[Moment], step: u32) -> Added
+    ensures { Adds result text.old text.new (bar_reason_text (slice_get moments.now step)) }
 {
-    let step = end.step;
-    write!(text, " to {step}: ")?;
-    add_fate(text, end.fate)
+    match moments.get(step as usize) {
+        Some(moment) => add_xml(text, moment.reason.as_str()),
+        None => Ok(()),
+    }
 }
 
-fn add_end_part(text: &mut String, end: Option<End>) -> Added
-    ensures { Adds result text.old text.new (end_phrase end) }
+// Why an entry completed so, as the step that ended it says.
+fn add_completion(text: &mut String, moments: &[Moment], end: End) -> Added
+    ensures { Adds result text.old text.new (completion_reason moments.now end.step end.fate) }
+{
+    match end.fate {
+        Fate::Completed(_) => add_reason(text, moments, end.step),
+        _ => Ok(()),
+    }
+}
+
+fn add_end(text: &mut String, moments: &[Moment], end: End) -> Added
+    ensures { Adds result text.old text.new (end_phrase moments.now (Some end)) }
+{
+    add_number(text, " to ", end.step)?;
+    text.push_str(": ")?;
+    add_fate(text, end.fate)?;
+    add_completion(text, moments, end)
+}
+
+fn add_end_part(text: &mut String, moments: &[Moment], end: Option<End>) -> Added
+    ensures { Adds result text.old text.new (end_phrase moments.now end) }
 {
     match end {
-        Some(end) => add_end(text, end),
+        Some(end) => add_end(text, moments, end),
         None => text.push_str(", still held"),
     }
 }
 
-// What the bar is of.
-fn add_bar_entry(text: &mut String, bar: &Bar) -> Added
-    ensures { Adds result text.old text.new (entry_phrase bar.now) }
+// The own name of the entry, as the step tells it that brought it to the engine.
+fn own_at(moments: &[Moment], step: u32) -> Option<&str>
+    ensures { option_map (λ own. own.now) result ≡ own_at moments.now step }
+{
+    moments.get(step as usize)?.own.as_deref()
+}
+
+fn add_own(text: &mut String, own: Option<&str>) -> Added
+    ensures { Adds result text.old text.new (own_phrase (option_map (λ own. own.now) own.entry)) }
+{
+    let Some(own) = own else {
+        return Ok(());
+    };
+    text.push_str(" is ")?;
+    add_xml(text, own)
+}
+
+// What the bar is of, an entry with this own name.
+fn add_bar_entry(text: &mut String, own: Option<&str>, bar: &Bar) -> Added
+    ensures { Adds result text.old text.new
+        (entry_phrase (option_map (λ own. own.now) own.entry) bar.now) }
 {
     add_number(text, kind_of(bar.is_batch), bar.name)?;
+    add_own(text, own)?;
     add_work(text, bar.desc)?;
     add_client(text, bar.client)?;
     add_parent(text, bar.parent)
 }
 
 // From where to where it goes, and how it ended.
-fn add_bar_steps(text: &mut String, bar: &Bar) -> Added
-    ensures { Adds result text.old text.new (steps_phrase bar.now) }
+fn add_bar_steps(text: &mut String, moments: &[Moment], bar: &Bar) -> Added
+    ensures { Adds result text.old text.new (steps_phrase moments.now bar.now) }
 {
     add_number(text, ", on e", u32::from(bar.engine))?;
     add_number(text, " from step ", bar.begin)?;
-    add_end_part(text, bar.end)
+    add_end_part(text, moments, bar.end)
 }
 
 #[tactic(auto, unfolding(crate::specs::Engines::bar_title_text))]
-fn add_bar_title(text: &mut String, bar: &Bar) -> Added
-    ensures { Adds result text.old text.new (bar_title_text bar.now) }
+fn add_bar_title(text: &mut String, moments: &[Moment], bar: &Bar) -> Added
+    ensures { Adds result text.old text.new (bar_title_text moments.now bar.now) }
 {
     text.push_str("<title>")?;
-    add_bar_entry(text, bar)?;
-    add_bar_steps(text, bar)?;
+    add_bar_entry(text, own_at(moments, bar.begin), bar)?;
+    add_bar_steps(text, moments, bar)?;
     text.push_str("</title>")
 }
 
@@ -255,9 +294,17 @@ fn lane_of(bar: &Bar, lanes: Lanes) -> u32
     }
 }
 
-fn add_boxes(alloc: Global, text: &mut String, bar: &Bar, extent: Extent, y: u64) -> Added
+fn add_boxes(
+    alloc: Global,
+    text: &mut String,
+    bar: &Bar,
+    own: Option<&str>,
+    extent: Extent,
+    y: u64,
+) -> Added
     requires { y < 2 ^ 40 }
-    ensures { Adds result text.old text.new (boxes_text extent bar.now y) }
+    ensures { Adds result text.old text.new
+        (boxes_text extent bar.now (option_map (λ own. own.now) own.entry) y) }
 {
     let last = bar.end_step(extent.last);
     let begin = extent.range.column_of(bar.begin);
@@ -265,17 +312,24 @@ fn add_boxes(alloc: Global, text: &mut String, bar: &Bar, extent: Extent, y: u64
     let end = extent.range.column_of(last);
     add_box_part(text, "waits", begin, runs, y)?;
     add_box_part(text, class_of(bar.end), runs, end, y)?;
-    add_label(alloc, text, bar, begin, end, y + 9)?;
+    add_label(alloc, text, bar, own, begin, end, y + 9)?;
     add_end_sign(text, sign_of(bar.end), end, y + 4)
 }
 
-fn add_bar(alloc: Global, text: &mut String, bar: &Bar, lanes: Lanes) -> Added
-    ensures { Adds result text.old text.new (bar_text lanes bar.now) }
+fn add_bar(alloc: Global, text: &mut String, moments: &[Moment], bar: &Bar, lanes: Lanes) -> Added
+    ensures { Adds result text.old text.new (bar_text lanes moments.now bar.now) }
 {
     let y = lane_top(lanes.top, lane_of(bar, lanes));
     text.push_str("<g>")?;
-    add_bar_title(text, bar)?;
-    add_boxes(alloc, text, bar, lanes.extent, y)?;
+    add_bar_title(text, moments, bar)?;
+    add_boxes(
+        alloc,
+        text,
+        bar,
+        own_at(moments, bar.begin),
+        lanes.extent,
+        y,
+    )?;
     text.push_str("</g>\n")
 }
 
@@ -286,22 +340,36 @@ fn is_shown(bar: &Bar, engine: u16, extent: Extent) -> bool
     bar.engine == engine && extent.range.is_within(bar.begin, bar.end_step(extent.last))
 }
 
-fn add_bar_of(alloc: Global, text: &mut String, bar: &Bar, engine: u16, lanes: Lanes) -> Added
+fn add_bar_of(
+    alloc: Global,
+    text: &mut String,
+    moments: &[Moment],
+    bar: &Bar,
+    engine: u16,
+    lanes: Lanes,
+) -> Added
     ensures { Adds result text.old text.new
-        (cond (is_shown engine lanes.extent bar.now) (bar_text lanes bar.now) []) }
+        (cond (is_shown engine lanes.extent bar.now) (bar_text lanes moments.now bar.now) []) }
 {
     if is_shown(bar, engine, lanes.extent) {
-        add_bar(alloc, text, bar, lanes)
+        add_bar(alloc, text, moments, bar, lanes)
     } else {
         Ok(())
     }
 }
 
-fn add_bars(alloc: Global, text: &mut String, bars: &[Bar], engine: u16, lanes: Lanes) -> Added
-    ensures { Adds result text.old text.new (bars_text engine lanes bars.now) }
+fn add_bars(
+    alloc: Global,
+    text: &mut String,
+    moments: &[Moment],
+    bars: &[Bar],
+    engine: u16,
+    lanes: Lanes,
+) -> Added
+    ensures { Adds result text.old text.new (bars_text engine lanes moments.now bars.now) }
 {
     for bar in bars {
-        add_bar_of(alloc, text, bar, engine, lanes)?;
+        add_bar_of(alloc, text, moments, bar, engine, lanes)?;
     }
     Ok(())
 }
@@ -389,7 +457,7 @@ fn add_engine_rows(
     add_engine_name(text, engine, columns, top)?;
     add_marks(text, moments_in(moments, lanes.extent.range), engine, top)?;
     add_batches(text, bars, engine, lanes)?;
-    add_bars(alloc, text, bars, engine, lanes)?;
+    add_bars(alloc, text, moments, bars, engine, lanes)?;
     add_rule(text, columns, bottom_of(lanes))
 }
 

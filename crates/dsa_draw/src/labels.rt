@@ -1,13 +1,14 @@
-//! Labels of bars: the name of the entry, and as much of what it asks for as there is room for.
+//! Labels of bars: the name of the entry, its own name, and as much of what it asks for as there is
+//! room for.
 
-ghost use Rattle.std.specs.Prelude.{◌≡◌, ◌++◌, ◌==◌, [], cond, Some, IfOk, decimal, string_bytes};
+ghost use Rattle.std.specs.Prelude.{◌≡◌, ◌==◌, cond, Some, IfOk, option_map, string_bytes};
 ghost use Rattle.dsa_event_text.specs.Added.{Adds};
 ghost use Rattle.dsa_event_text.specs.Text.{operation_label};
-ghost use Rattle.dsa_draw.specs.Labels.{sign_of_fate, sign_of, operation_part, pasid_part, label_with, letters_in, sign_letters, is_fitting, bar_label_text};
+ghost use Rattle.dsa_draw.specs.Labels.{sign_of_fate, sign_of, operation_part, pasid_part, own_part, label_with, letters_in, sign_letters, is_fitting, longest_label, label_of, label_shown, bar_label_text};
 
 use crate::bars::{Bar, End};
 use crate::geometry::columns_wide;
-use crate::page::add_letters;
+use crate::page::add_xml_letters;
 use dsa_book::Fate;
 use dsa_desc::Descriptor;
 use dsa_desc::opcode::Operation;
@@ -86,10 +87,22 @@ fn add_pasid_part(text: &mut String, desc: Option<Descriptor>) -> Added
     }
 }
 
-fn add_detail(text: &mut String, bar: &Bar, detail: Detail) -> Added
-    ensures { Adds result text.old text.new (label_with detail bar.now) }
+fn add_own_part(text: &mut String, own: Option<&str>) -> Added
+    ensures { Adds result text.old text.new (own_part (option_map (λ own. own.now) own.entry)) }
+{
+    let Some(own) = own else {
+        return Ok(());
+    };
+    text.push_str(" ")?;
+    text.push_str(own)
+}
+
+fn add_detail(text: &mut String, bar: &Bar, own: Option<&str>, detail: Detail) -> Added
+    ensures { Adds result text.old text.new
+        (label_with (option_map (λ own. own.now) own.entry) detail bar.now) }
 {
     add_number(text, "", bar.name)?;
+    add_own_part(text, own)?;
     match detail {
         Detail::Name => Ok(()),
         Detail::Operation => add_operation_part(text, bar.desc),
@@ -100,11 +113,17 @@ fn add_detail(text: &mut String, bar: &Bar, detail: Detail) -> Added
     }
 }
 
-fn label_with(alloc: Global, bar: &Bar, detail: Detail) -> Result<String, AllocError>
-    ensures { IfOk result (λ label. string_bytes label ≡ label_with detail bar.now) }
+fn label_with(
+    alloc: Global,
+    bar: &Bar,
+    own: Option<&str>,
+    detail: Detail,
+) -> Result<String, AllocError>
+    ensures { IfOk result (λ label. string_bytes label
+        ≡ label_with (option_map (λ own. own.now) own.entry) detail bar.now) }
 {
     let mut label = String::new(alloc);
-    add_detail(&mut label, bar, detail)?;
+    add_detail(&mut label, bar, own, detail)?;
     Ok(label)
 }
 
@@ -128,29 +147,64 @@ fn is_fitting(label: &String, bar: &Bar, wide: u64) -> bool
     label.len() as u64 + sign_letters(bar.end) <= letters_in(wide)
 }
 
-/// The longest label that a bar over these columns has room for.
+// The longest label with this own name that there is room for.
+fn longest_label(
+    alloc: Global,
+    bar: &Bar,
+    own: Option<&str>,
+    wide: u64,
+) -> Result<Option<String>, AllocError>
+    ensures { IfOk result (λ label. option_map string_bytes label
+        ≡ longest_label wide bar.now (option_map (λ own. own.now) own.entry)) }
+{
+    let whole_run = label_with(alloc, bar, own, Detail::Pasid)?;
+    if is_fitting(&whole_run, bar, wide) {
+        return Ok(Some(whole_run));
+    }
+    let shorter = label_with(alloc, bar, own, Detail::Operation)?;
+    if is_fitting(&shorter, bar, wide) {
+        return Ok(Some(shorter));
+    }
+    let name = label_with(alloc, bar, own, Detail::Name)?;
+    if is_fitting(&name, bar, wide) {
+        return Ok(Some(name));
+    }
+    Ok(None)
+}
+
+// And without it, where there is room for none with it.
+fn label_of(
+    alloc: Global,
+    bar: &Bar,
+    own: Option<&str>,
+    wide: u64,
+) -> Result<Option<String>, AllocError>
+    ensures { IfOk result (λ label. option_map string_bytes label
+        ≡ label_of wide bar.now (option_map (λ own. own.now) own.entry)) }
+{
+    match longest_label(alloc, bar, own, wide)? {
+        Some(label) => Ok(Some(label)),
+        None => longest_label(alloc, bar, None, wide),
+    }
+}
+
+/// The label of a bar over these columns, whose entry has this own name: the longest that it has
+/// room for.
+#[tactic(auto, unfolding(crate::specs::Labels::bar_label_text))]
 pub fn add_label(
     alloc: Global,
     text: &mut String,
     bar: &Bar,
+    own: Option<&str>,
     begin: u32,
     end: u32,
     base: u64,
 ) -> Added
-    ensures { Adds result text.old text.new (bar_label_text bar.now begin end base) }
+    ensures { Adds result text.old text.new
+        (bar_label_text bar.now (option_map (λ own. own.now) own.entry) begin end base) }
 {
-    let wide = columns_wide(begin, end);
-    let whole_run = label_with(alloc, bar, Detail::Pasid)?;
-    if is_fitting(&whole_run, bar, wide) {
-        return add_letters(text, begin, base, whole_run.as_str());
+    match label_of(alloc, bar, own, columns_wide(begin, end))? {
+        Some(label) => add_xml_letters(alloc, text, begin, base, label.as_str()),
+        None => Ok(()),
     }
-    let shorter = label_with(alloc, bar, Detail::Operation)?;
-    if is_fitting(&shorter, bar, wide) {
-        return add_letters(text, begin, base, shorter.as_str());
-    }
-    let name = label_with(alloc, bar, Detail::Name)?;
-    if is_fitting(&name, bar, wide) {
-        return add_letters(text, begin, base, name.as_str());
-    }
-    Ok(())
 }

@@ -1,10 +1,10 @@
 //! A drawing of a scenario's run, as SVG: queues and read buffers by steps, and the entries that
-//! engines had.
+//! engines had, with their own names.
 //!
-//! [`Drawing`] reads a document, runs its steps on a new device, and takes a [`Moment`] after each:
-//! what the device answered, and what it then says of itself. All that is drawn is of these moments
-//! and of the fates that the device tells at the end. `docs/COMMANDS.md` says how a drawing is
-//! read.
+//! [`Drawing`] takes a [`Moment`] after each step of a run: what the device answered and why, which
+//! own names that mentions, and what the device then says of itself. All that is drawn is of these
+//! moments and of the fates that the device tells at the end. [`WithNames`](dsa_named::WithNames)
+//! makes of it a text of a document. `docs/COMMANDS.md` says how a drawing is read.
 #![tactic(auto)]
 
 mod active;
@@ -14,6 +14,7 @@ mod drawing;
 mod engines;
 mod geometry;
 mod labels;
+pub mod laws;
 mod marks;
 mod moment;
 mod page;

@@ -1,16 +1,23 @@
 //! What is read of a device after a step.
 
-ghost use Rattle.std.specs.Prelude.{◌≡◌, ◌<◌, IfOk, map, option_map};
+ghost use Rattle.std.specs.Prelude.{◌≡◌, ◌<◌, IfOk, map, option_map, string_bytes};
+ghost use Rattle.dsa_device.specs.Running.{Running};
+ghost use Rattle.dsa_scenario.specs.{Run.{answered_by}, Steps.{visit}};
+ghost use Rattle.dsa_explain_lines.specs.Parts.{part_of};
 ghost use Rattle.std.specs.List.{range_with_len};
-ghost use Rattle.dsa_draw.specs.Moments.{level_with, queue_mark, queue_level_of, group_level_of, level_of, band_count, batch_after, cell_brought, desc_in, desc_brought, IsMomentOf};
+ghost use Rattle.dsa_named.specs.{Names.{own_of}, Notes.{names_note}, Steps.{named_visit}};
+ghost use Rattle.dsa_named_lines.specs.Lines.{named_in};
+ghost use Rattle.dsa_draw.specs.Moments.{level_with, queue_mark, queue_level_of, group_level_of, level_of, band_count, batch_after, ticket_brought, desc_in, desc_brought, own_name_of, own_of_ticket, own_brought, IsMomentOf};
 
 use crate::bars::lane_number;
-use dsa_book::{Actor, BatchNote, DispatchAnswer, FetchAnswer, Reply};
+use dsa_book::{Actor, BatchNote, DispatchAnswer, FetchAnswer, Reply, Ticket};
 use dsa_desc::Descriptor;
 use dsa_device::Device;
+use dsa_named::{OwnName, add_note};
+use dsa_named_lines::names_in;
 use dsa_regs::{Caps, Phase, QueueConfig};
-use dsa_scenario::Record;
-use dsa_store::{Cell, Entry, EntryStore};
+use dsa_scenario::{MadeText, Record, StepMade};
+use dsa_store::{Entry, EntryStore};
 use std::alloc::{AllocError, Global};
 
 /// How full something is: of a queue its occupancy, its threshold where it has one and its size, of
@@ -37,6 +44,10 @@ pub struct Moment {
     /// The number of the step, from 0.
     pub number: u32,
     pub entry: Record,
+    /// Why it was answered so, as an explanation says it.
+    pub reason: String,
+    /// The own names of the entries that its line mentions, as an explanation says them.
+    pub note: String,
     /// The phase of the device.
     pub phase: Phase,
     /// Of each queue, by number.
@@ -47,6 +58,8 @@ pub struct Moment {
     pub batch: Option<u32>,
     /// The descriptor of the entry that the step brought to an engine.
     pub desc: Option<Descriptor>,
+    /// The own name of that entry.
+    pub own: Option<String>,
     /// How many entries have ended.
     pub ended: usize,
 }
@@ -154,13 +167,13 @@ fn batch_after<S: EntryStore>(device: &Device<S>, entry: &Record) -> Option<u32>
     }
 }
 
-// The cell of the entry that came to an engine.
-fn cell_brought(reply: Reply) -> Option<Cell>
-    ensures { result ≡ cell_brought reply }
+// The ticket of the entry that came to an engine.
+fn ticket_brought(reply: Reply) -> Option<Ticket>
+    ensures { result ≡ ticket_brought reply }
 {
     match reply {
-        Reply::Dispatch(DispatchAnswer::Taken { ticket, .. }) => Some(ticket.cell),
-        Reply::Fetch(FetchAnswer::Fetched(ticket)) => Some(ticket.cell),
+        Reply::Dispatch(DispatchAnswer::Taken { ticket, .. }) => Some(ticket),
+        Reply::Fetch(FetchAnswer::Fetched(ticket)) => Some(ticket),
         _ => None,
     }
 }
@@ -171,10 +184,10 @@ fn desc_of(entry: Option<Entry>) -> Option<Descriptor>
     Some(entry?.desc)
 }
 
-fn desc_in<S: EntryStore>(device: &Device<S>, cell: Option<Cell>) -> Option<Descriptor>
-    ensures { result ≡ desc_in device.now cell }
+fn desc_in<S: EntryStore>(device: &Device<S>, ticket: Option<Ticket>) -> Option<Descriptor>
+    ensures { result ≡ desc_in device.now ticket }
 {
-    desc_of(device.entry_in(cell?))
+    desc_of(device.entry_in(ticket?.cell))
 }
 
 // What it is, with the PASID that the device gave it.
@@ -182,28 +195,86 @@ fn desc_brought<S: EntryStore>(device: &Device<S>, entry: &Record) -> Option<Des
     ensures { result ≡ desc_brought device.now entry.now }
 {
     match entry {
-        Record::Stepped(step) => desc_in(device, cell_brought(step.reply)),
+        Record::Stepped(step) => desc_in(device, ticket_brought(step.reply)),
         Record::Refused(_) => None,
     }
 }
 
-/// What there is to draw of a step, read from the device after it.
-pub fn take_moment<S: EntryStore>(
-    alloc: Global,
-    number: usize,
-    device: &Device<S>,
-    entry: Record,
-) -> Result<Moment, AllocError>
-    ensures { IfOk result (λ moment. IsMomentOf number device.now entry moment) }
+// The own name of the entry of this name.
+fn own_name_of<'a>(names: &[OwnName<'a>], name: u32) -> Option<&'a str>
+    ensures { option_map (λ text. text.now) result ≡ own_name_of name (map own_of names.now) }
 {
+    for own in names {
+        if own.name == name {
+            return Some(own.text);
+        }
+    }
+    None
+}
+
+fn own_of_ticket<'a>(names: &[OwnName<'a>], ticket: Option<Ticket>) -> Option<&'a str>
+    ensures { option_map (λ text. text.now) result
+        ≡ own_of_ticket (map own_of names.now) ticket }
+{
+    own_name_of(names, ticket?.name)
+}
+
+fn own_brought<'a>(names: &[OwnName<'a>], entry: &Record) -> Option<&'a str>
+    ensures { option_map (λ text. text.now) result ≡ own_brought (map own_of names.now) entry.now }
+{
+    match entry {
+        Record::Stepped(step) => own_of_ticket(names, ticket_brought(step.reply)),
+        Record::Refused(_) => None,
+    }
+}
+
+fn owned(alloc: Global, text: Option<&str>) -> Result<Option<String>, AllocError>
+    ensures { IfOk result (λ owned. option_map string_bytes owned
+        ≡ option_map (λ text. text.now) text.entry) }
+{
+    match text {
+        Some(text) => Ok(Some(String::from_str(alloc, text)?)),
+        None => Ok(None),
+    }
+}
+
+// The own names of the entries that the line of a step mentions, as they are at its end.
+fn note_of<S: EntryStore>(step: &StepMade<'_, S>, names: &[OwnName<'_>]) -> MadeText
+    ensures { IfOk result (λ note. string_bytes note
+        ≡ names_note (named_in (map own_of names.now) step.now.entry.now
+        step.now.device.now.state)) }
+{
+    let mentioned = names_in(step.alloc, names, step.entry, step.device)?;
+    let mut note = String::new(step.alloc);
+    add_note(&mut note, &mentioned)?;
+    Ok(note)
+}
+
+/// What there is to draw of a step, up to which these own names were given: what was told of the
+/// device before it, and what is read of the device after it.
+pub fn take_moment<S: EntryStore>(
+    step: &StepMade<'_, S>,
+    names: &[OwnName<'_>],
+) -> Result<Moment, AllocError>
+    ensures { IfOk result (λ moment. (before : Running)
+        → step.now.told.now ≡ part_of before (answered_by step.now.entry.now)
+        → IsMomentOf (named_visit (map own_of names.now)
+        (visit step.now.number before step.now.entry.now step.now.device.now)) moment) }
+{
+    let alloc = step.alloc;
+    let device = step.device;
+    let entry = *step.entry;
     Ok(Moment {
-        number: lane_number(number),
+        number: lane_number(step.number),
         entry,
+        reason: String::from_str(alloc, step.told)?,
+        note: note_of(step, names)?,
         phase: device.phase(),
         queues: levels(alloc, device, BandKind::Queue)?,
         groups: levels(alloc, device, BandKind::Group)?,
         batch: batch_after(device, &entry),
         desc: desc_brought(device, &entry),
+        own: owned(alloc, own_brought(names, &entry))?,
         ended: device.fates().len(),
     })
 }

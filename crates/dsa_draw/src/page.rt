@@ -3,12 +3,13 @@
 ghost use Rattle.std.specs.Prelude.{◌≡◌};
 ghost use Rattle.dsa_event_text.specs.Added.{Adds};
 ghost use Rattle.dsa_draw.specs.Bands.{again_at_text, again_place_text, again_text, number_after_text, numbered_text};
-ghost use Rattle.dsa_draw.specs.Pages.{svg_text, page_size_text, view_text, whole_title_text, some_steps_text, of_run_text, part_title_text, run_title_text, told_text, description_text, page_height, shapes_text, legend_text, style_text, sheet_text, rect_text, box_text, letters_text, small_number_text, head_text, foot_text, row_name_text, rule_text, dot_text, cross_text, mark_text};
+ghost use Rattle.dsa_draw.specs.Pages.{svg_text, page_size_text, view_text, xml_char, xml_text, whole_title_text, some_steps_text, of_run_text, part_title_text, run_title_text, told_text, description_text, page_height, shapes_text, legend_text, style_text, sheet_text, rect_text, box_text, letters_text, small_number_text, head_text, foot_text, row_name_text, rule_text, dot_text, cross_text, mark_text};
 
 use crate::geometry::{column_left, columns_wide};
 use crate::marks::Mark;
 use crate::range::Extent;
 use dsa_event_text::{Added, add_count, add_number};
+use std::alloc::Global;
 use std::fmt::Write;
 
 // Colours for light and for dark. Titles are those of columns and bars, so marks let the pointer
@@ -76,6 +77,27 @@ const LEGEND: &str = "<circle class=\"done\" cx=\"14\" cy=\"14\" r=\"3\"/>
 <path class=\"stopping\" d=\"M6 196h16\"/>
 <text x=\"28\" y=\"200\">device or queue stopping</text>
 ";
+
+fn add_xml_char(text: &mut String, c: char) -> Added
+    ensures { Adds result text.old text.new (xml_char c) }
+{
+    match c {
+        '&' => text.push_str("&amp;"),
+        '<' => text.push_str("&lt;"),
+        '>' => text.push_str("&gt;"),
+        _ => text.push(c),
+    }
+}
+
+/// Adds a text as XML has it.
+pub fn add_xml(text: &mut String, plain: &str) -> Added
+    ensures { Adds result text.old text.new (xml_text plain.now) }
+{
+    for c in plain.chars() {
+        add_xml_char(text, c)?;
+    }
+    Ok(())
+}
 
 #[tactic(auto, unfolding(crate::specs::Pages::svg_text))]
 fn add_svg(text: &mut String) -> Added
@@ -191,7 +213,7 @@ pub fn add_box(text: &mut String, class: &str, begin: u32, end: u32, y: u64) -> 
     text.push_str(" rx=\"2\"/>")
 }
 
-/// Small letters from the column of a step on.
+/// Small letters, none of which is an entity, from the column of a step on.
 #[tactic(auto, unfolding(crate::specs::Pages::letters_text))]
 pub fn add_letters(text: &mut String, step: u32, base: u64, letters: &str) -> Added
     ensures { Adds result text.old text.new (letters_text step base letters.now) }
@@ -201,6 +223,15 @@ pub fn add_letters(text: &mut String, step: u32, base: u64, letters: &str) -> Ad
         text,
         "<text class=\"label\" x=\"{x}\" y=\"{base}\">{letters}</text>"
     )
+}
+
+/// The same of any text.
+pub fn add_xml_letters(alloc: Global, text: &mut String, step: u32, base: u64, plain: &str) -> Added
+    ensures { Adds result text.old text.new (letters_text step base (xml_text plain.now)) }
+{
+    let mut letters = String::new(alloc);
+    add_xml(&mut letters, plain)?;
+    add_letters(text, step, base, letters.as_str())
 }
 
 /// A small number in the column of a step.

@@ -1,6 +1,7 @@
 //! Worked drawings: texts, bars and lanes at chosen values, by computation.
 
-ghost use Rattle.std.specs.Prelude.{◌≡◌, ◌++◌, [], ◌∷◌, Some, None, true, false, map, replicate, take, codes};
+ghost use Rattle.std.specs.Prelude.{◌≡◌, ◌++◌, [], ◌∷◌, Some, None, Ok, true, false, map, replicate, take, codes};
+ghost use Rattle.std.specs.Str.{encode_utf8_all};
 ghost use Rattle.std.proofs.Common.{lit≤};
 ghost use Rattle.std.specs.declared.{alloc.Global.{Global}, vec.Vec.{Vec}};
 ghost use Rattle.dsa_regs.specs.declared.Command.TheVariants.{DrainPasid, EnableDevice};
@@ -23,7 +24,7 @@ ghost use Rattle.dsa_book.specs.declared.event.Event.TheVariants as event;
 ghost use Rattle.dsa_book.specs.declared.fate.Fate.TheVariants.{Abandoned, Aborted, Completed};
 ghost use Rattle.dsa_scenario.specs.Worked.{no_command};
 ghost use Rattle.dsa_scenario.specs.declared.run.Record.TheVariants.{Refused};
-ghost use Rattle.dsa_scenario.specs.Steps.{standing};
+ghost use Rattle.dsa_scenario.specs.{Run.{answered_by}, Steps.{standing}};
 ghost use Rattle.dsa_scenario.specs.Worked.{caps_of_a_run, fill, queue_of_a_run, record_ticket, records_of_a_run, stepped};
 ghost use Rattle.dsa_draw.specs.declared.marks.Mark.TheVariants.{Done, Wait, Failed};
 ghost use Rattle.dsa_draw.specs.declared.labels.{Detail.TheVariants.{Name, Operation, Pasid}, Sign.TheVariants.{Cross, Slash}};
@@ -35,18 +36,21 @@ ghost use Rattle.dsa_draw.specs.declared.phases.Holder.TheVariants as holder;
 ghost use Rattle.dsa_draw.specs.Ranges.{all_steps, column_of, ended_before, is_in_range, moments_in, range_of_text, within};
 ghost use Rattle.dsa_draw.specs.Bands.{again_text, is_same_phase, phase_in, phase_of_queue, phases_text};
 ghost use Rattle.dsa_draw.specs.Bands.{bands_end, bands_of, bands_text, band_text, level_height, level_in, peak_text, peaks_of, raised, line_text, class_text, close_text, frame_text, highest, lower_end, name_text, next_step, next_top, path_text, band_range_text, line_value};
-ghost use Rattle.dsa_draw.specs.Moments.{batch_after, cell_brought, desc_brought, group_level_of, IsMomentOf, level_with, queue_level_of, queue_mark};
+ghost use Rattle.dsa_draw.specs.Moments.{batch_after, desc_brought, own_brought, ticket_brought, group_level_of, IsMomentOf, level_with, queue_level_of, queue_mark};
 ghost use Rattle.dsa_draw.specs.Drawings.{AreMoments, drawing_text, IsDrawnOf, IsStoryOf, step_count, story_bands_end, story_bands_text, story_engines_text, story_height};
-ghost use Rattle.dsa_draw.specs.Columns.{asked_text, column_text, columns_text, fifth_text};
-ghost use Rattle.dsa_draw.specs.Pages.{page_width, page_height, page_size_text, view_text, told_text, run_title_text, description_text, shapes_text, legend_text, sheet_text, style_text, head_text, foot_text, row_name_text, rule_text, mark_text};
+ghost use Rattle.dsa_draw.specs.Columns.{column_text, columns_text, fifth_text, step_words, title_text};
+ghost use Rattle.dsa_explain_lines.specs.Parts.{part_of};
+ghost use Rattle.dsa_named.specs.Steps.{named_visit};
+ghost use Rattle.dsa_draw.specs.Pages.{page_width, page_height, page_size_text, view_text, told_text, run_title_text, description_text, shapes_text, legend_text, sheet_text, style_text, head_text, foot_text, row_name_text, rule_text, mark_text, xml_text};
 ghost use Rattle.dsa_draw.specs.Rows.{label_above_text, asker_of, asker_mark_text, asker_text, rows_between, fate_mark, fates_text, names_above_text, marks_above_text, names_again_text, rows_above_text};
 ghost use Rattle.dsa_draw.specs.Bars.{bars_of, end_step, engine_of_actor, submitter_in, client_of_actor, is_batch_named, free_place, in_lanes, all_lanes, lane_number, lanes_taken, is_bar_of};
 ghost use Rattle.dsa_count.specs.Waits.{active_in, reports_end};
 ghost use Rattle.dsa_draw.specs.Active.{wait_phrase, waits_from, waits_text};
-ghost use Rattle.dsa_draw.specs.Labels.{is_fitting, bar_label_text, label_with, letters_in, operation_part, sign_letters, sign_of, sign_of_fate};
-ghost use Rattle.dsa_draw.specs.Engines.{bar_text, bars_text, end_sign_text, batches_text, bars_in_lanes, box_part_text, bar_title_text, client_phrase, work_phrase, class_of_end, class_of_fate, end_phrase, engine_bottom, engine_end, engine_marks_text, engine_part_text, engines_end, engines_text, fate_phrase, has_steps, boxes_text, is_shown, is_step_by, lane_by, lanes_high, lanes_of, parent_phrase};
+ghost use Rattle.dsa_draw.specs.Labels.{is_fitting, bar_label_text, label_of, label_with, letters_in, operation_part, sign_letters, sign_of, sign_of_fate};
+ghost use Rattle.dsa_draw.specs.Engines.{bar_text, bars_text, end_sign_text, batches_text, bars_in_lanes, box_part_text, bar_title_text, client_phrase, work_phrase, class_of_end, class_of_fate, end_phrase, engine_bottom, engine_end, engine_marks_text, engine_part_text, engines_end, engines_text, fate_phrase, has_steps, boxes_text, is_shown, is_step_by, lane_by, lanes_high, lanes_of, own_at, parent_phrase};
 ghost use Rattle.dsa_draw.specs.Worked.{bar_from, bar_of_a_move, drain_issued, end_at, ended_row, five_lanes, group_band, moment_of, moments_of_a_batch, moments_of_a_drain, move_of_a_page, queue_band};
-ghost use Rattle.dsa_draw.specs.Worked.{caps_of_a_drawing, device_of_a_drawing, idle_step, level, moment_in_phase, numbered, steps_two_to_four, whole_run, moment_of_a_device, moments_of_a_third_name, moments_with_levels, story, story_of_a_device, story_with, vector, visit_of_a_device};
+ghost use Rattle.dsa_draw.specs.Worked.{caps_of_a_drawing, device_of_a_drawing, idle_step, level, moment_in_phase, numbered, steps_two_to_four, whole_run, moment_of_a_device, moments_of_a_third_name, moments_with_levels, moment_with_names, of_a_note, of_an_own_name, step_of_a_device, step_with_names, story, story_of_a_device, story_with, vector, visit_of_a_device, visit_with_names};
+ghost use Rattle.dsa_draw.specs.Worked.{device_of_a_large_move, device_with_an_empty_queue, end_of_a_large_move, moment_of_a_large_move, moments_of_a_large_move, moment_with_reason, no_command_is_utf8, no_group_is_utf8, no_reason, note_is_utf8, of_a_large_move, of_an_empty_queue, of_no_command, of_no_group, text_with_bytes};
 
 /// The width of a page, its head, names of rows, lines, and marks in the column of a step.
 #[tactic(auto, unfolding(crate::specs::Worked::drawn_on_literals))]
@@ -148,14 +152,11 @@ pub fn bands()
 /// The column of a step, with its title, and the number of every fifth.
 #[tactic(auto, unfolding(crate::specs::Worked::drawn_on_literals))]
 pub fn columns()
-    ensures asked { map asked_text
-        (stepped event.Poll (reply.Poll Nothing) ∷ Refused no_command ∷ [])
-        ≡ codes "poll" ∷ codes "command 0x0" ∷ [] }
     ensures column { (levels : Vec Level Global)
         → column_text 300 2
         (record (moment_of levels (stepped event.Poll (reply.Poll Nothing)) None 0) { number = 7 })
         ≡ codes "<rect class=\"column\" x=\"140\" y=\"80\" width=\"14\" height=\"220\"><title>step "
-        ++ codes "7: poll: nothing</title></rect>\n" }
+        ++ codes "7: poll -&gt; nothing</title></rect>\n" }
     ensures fifths { map (fifth_text 300 5) (4 ∷ 5 ∷ [])
         ≡ []
         ∷ (codes "<path class=\"grid\" d=\"M182 80v220\"/>\n"
@@ -164,15 +165,55 @@ pub fn columns()
     ensures of_a_batch { (levels : Vec Level Global)
         → columns_text 300 3 (numbered 3 (moments_of_a_batch levels))
         ≡ codes "<rect class=\"column\" x=\"154\" y=\"80\" width=\"14\" height=\"220\"><title>s"
-        ++ codes "tep 3: submit q0 limited movdir client 5 fill 0 bytes: accepted 0</title></rec"
-        ++ codes "t>\n<rect class=\"column\" x=\"168\" y=\"80\" width=\"14\" height=\"220\"><tit"
-        ++ codes "le>step 4: dispatch e1: taken 0 from 0</title></rect>\n<path class=\"grid\" d="
-        ++ codes "\"M182 80v220\"/>\n<text x=\"184\" y=\"91\">5</text>\n<rect class=\"column\" x"
-        ++ codes "=\"182\" y=\"80\" width=\"14\" height=\"220\"><title>step 5: fetch e1 fill 0 b"
-        ++ codes "ytes: fetched 1</title></rect>\n<rect class=\"column\" x=\"196\" y=\"80\" widt"
-        ++ codes "h=\"14\" height=\"220\"><title>step 6: start e1: started 1</title></rect>\n<re"
-        ++ codes "ct class=\"column\" x=\"210\" y=\"80\" width=\"14\" height=\"220\"><title>step"
-        ++ codes " 7: finish e1 name 1 success: done 01</title></rect>\n" }
+        ++ codes "tep 3: submit q0 limited movdir client 5 fill 0 bytes -&gt; accepted 0</title></"
+        ++ codes "rect>\n<rect class=\"column\" x=\"168\" y=\"80\" width=\"14\" height=\"220\"><t"
+        ++ codes "itle>step 4: dispatch e1 -&gt; taken 0 from 0</title></rect>\n<path class=\"gri"
+        ++ codes "d\" d=\"M182 80v220\"/>\n<text x=\"184\" y=\"91\">5</text>\n<rect class=\"colu"
+        ++ codes "mn\" x=\"182\" y=\"80\" width=\"14\" height=\"220\"><title>step 5: fetch e1 fil"
+        ++ codes "l 0 bytes -&gt; fetched 1</title></rect>\n<rect class=\"column\" x=\"196\" y=\""
+        ++ codes "80\" width=\"14\" height=\"220\"><title>step 6: start e1 -&gt; started 1</title"
+        ++ codes "></rect>\n<rect class=\"column\" x=\"210\" y=\"80\" width=\"14\" height=\"220\""
+        ++ codes "><title>step 7: finish e1 name 1 success -&gt; done 01</title></rect>\n" }
+{}
+
+/// The titles of columns: of devices with other numbers of queues, groups and engines, with why a
+/// step was answered so, as XML has it.
+#[tactic(auto, unfolding(crate::specs::Worked::drawn_on_literals))]
+pub fn titles()
+    ensures entities { map xml_text (codes "a -> b" ∷ codes "<&>" ∷ codes "\"'#;" ∷ [] ∷ [])
+        ≡ codes "a -&gt; b" ∷ codes "&lt;&amp;&gt;" ∷ codes "\"'#;" ∷ [] ∷ [] }
+    ensures beyond_ascii { xml_text (encode_utf8_all (codes "é→")) ≡ encode_utf8_all (codes "é→") }
+    ensures idle { (memory : Global)
+        → title_text (moment_of_a_device memory)
+        ≡ codes "step 3: dispatch e1 -&gt; idle: q0 is empty" }
+    ensures why_idle { part_of device_with_an_empty_queue (Ok (event.Dispatch 1))
+        ≡ of_an_empty_queue }
+    ensures why_idle_later { part_of device_of_a_drawing (Ok (event.Dispatch 1)) ≡ of_no_group }
+    ensures completed { (memory : Global)
+        → (levels : Vec Level Global)
+        → title_text (moment_of_a_large_move memory levels)
+        ≡ codes "step 12: finish e3 name 2 success -&gt; done 13: size 4097 is above 4096, the tra"
+        ++ codes "nsfer limit of q2" }
+    ensures why_completed { part_of device_of_a_large_move (answered_by end_of_a_large_move)
+        ≡ of_a_large_move }
+    ensures why_idle_of_two { part_of device_of_a_large_move (Ok (event.Dispatch 3))
+        ≡ codes ": q0 is empty; q2 is empty" }
+    ensures taken { (memory : Global)
+        → step_words
+        (record (moment_of_a_device memory) {
+          entry = stepped (event.Dispatch 1)
+              (reply.Dispatch (dispatch.Taken (record_ticket 3 6) 0));
+        })
+        ≡ codes "dispatch e1 -> taken 6 from 0" }
+    ensures word { (memory : Global)
+        → step_words (record (moment_of_a_device memory) { entry = Refused no_command })
+        ≡ codes "command 0x0 -> refused 13 BadCommand: q0 is empty" }
+    ensures with_names { (memory : Global)
+        → map title_text
+        (moment_with_names memory
+        ∷ record (moment_with_names memory) { entry = idle_step 1 } ∷ [])
+        ≡ codes "step 3: dispatch e1 -&gt; taken 6 from 0 [6 is a&lt;b]"
+        ∷ codes "step 3: dispatch e1 -&gt; idle: q0 is empty [6 is a&lt;b]" ∷ [] }
 {}
 
 /// Names of commands, marks of those who asked, and what ended, each above the column of its step.
@@ -311,23 +352,52 @@ pub fn engines()
         ≡ codes "held" ∷ codes "success" ∷ [] }
     ensures phrases { map fate_phrase (Completed 3 ∷ Aborted 4 ∷ Abandoned ∷ [])
         ≡ codes "completed 03" ∷ codes "aborted by command 4" ∷ codes "abandoned" ∷ [] }
-    ensures end_phrases { map end_phrase (None ∷ end_at 5 Abandoned ∷ [])
+    ensures end_phrases { map (end_phrase []) (None ∷ end_at 5 Abandoned ∷ [])
         ≡ codes ", still held" ∷ codes " to 5: abandoned" ∷ [] }
     ensures parents { map parent_phrase (None ∷ Some 7 ∷ [])
         ≡ [] ∷ codes ", member of batch 7" ∷ [] }
-    ensures title { bar_title_text (bar_from 12 (Some 7) 2 None)
+    ensures title { bar_title_text [] (bar_from 12 (Some 7) 2 None)
         ≡ codes "<title>entry 12, member of batch 7, on e1 from step 2, still held</title>" }
-    ensures batch_title { bar_title_text
+    ensures batch_title { bar_title_text []
         (record (bar_from 12 None 2 (end_at 5 Abandoned)) { is_batch = true })
         ≡ codes "<title>batch 12, on e1 from step 2 to 5: abandoned</title>" }
     ensures works { map work_phrase (None ∷ Some fill ∷ [])
         ≡ [] ∷ codes ": fill 0 bytes, PASID 0" ∷ [] }
     ensures clients { map client_phrase (None ∷ Some 3 ∷ []) ≡ [] ∷ codes ", client 3" ∷ [] }
-    ensures title_of_a_move { bar_title_text
+    ensures title_of_a_move { bar_title_text []
         (record (bar_from 12 None 2 (end_at 5 (Completed 1)))
         { desc = Some move_of_a_page; client = Some 3 })
         ≡ codes "<title>entry 12: move 4096 bytes, PASID 5, client 3, on e1 from step 2 to 5: com"
         ++ codes "pleted 01</title>" }
+    ensures title_with_reason { (memory : Global)
+        → (levels : Vec Level Global)
+        → map (λ fate. bar_title_text (moments_of_a_large_move memory levels)
+        (bar_from 12 None 0 (end_at 1 fate)))
+        (Completed 0x13 ∷ Aborted 4 ∷ Abandoned ∷ [])
+        ≡ (codes "<title>entry 12, on e1 from step 0 to 1: completed 13: size 4097 is above 4096, "
+        ++ codes "the transfer limit of q2</title>")
+        ∷ codes "<title>entry 12, on e1 from step 0 to 1: aborted by command 4</title>"
+        ∷ codes "<title>entry 12, on e1 from step 0 to 1: abandoned</title>" ∷ [] }
+    ensures other_step { (memory : Global)
+        → (levels : Vec Level Global)
+        → map (λ step. end_phrase (moments_of_a_large_move memory levels)
+        (end_at step (Completed 0x13)))
+        (0 ∷ 2 ∷ [])
+        ≡ codes " to 0: completed 13" ∷ codes " to 2: completed 13" ∷ [] }
+    ensures title_with_names { (memory : Global)
+        → bar_title_text (moment_of_a_device memory ∷ moment_with_names memory ∷ [])
+        (record (bar_from 6 (Some 4) 1 None) { desc = Some move_of_a_page; is_batch = true })
+        ≡ codes "<title>batch 6 is a&lt;b: move 4096 bytes, PASID 5, member of batch 4, on e1 fro"
+        ++ codes "m step 1, still held</title>" }
+    ensures own_names { (memory : Global)
+        → map (own_at (moment_of_a_device memory ∷ moment_with_names memory ∷ []))
+        (0 ∷ 1 ∷ 2 ∷ [])
+        ≡ None ∷ Some of_an_own_name ∷ None ∷ [] }
+    ensures bar_with_names { (memory : Global)
+        → bar_text five_lanes (moment_with_names memory ∷ []) (bar_from 6 None 0 None)
+        ≡ codes "<g><title>entry 6 is a&lt;b, on e1 from step 0, still held</title><rect class=\"h"
+        ++ codes "eld\" x=\"112\" y=\"200\" width=\"126\" height=\"11\" rx=\"2\"/><text class="
+        ++ codes "\"label\" x=\"114\" y=\"209\">6 a&lt;b</text></g>\n" }
     ensures signs_of_fates { map sign_of_fate
         (Completed 1 ∷ Completed 0 ∷ Completed 2 ∷ Aborted 4 ∷ Abandoned ∷ [])
         ≡ None ∷ Some Cross ∷ Some Cross ∷ Some Slash ∷ Some Slash ∷ [] }
@@ -335,7 +405,7 @@ pub fn engines()
     ensures signs { map (λ sign. end_sign_text sign 5 204) (None ∷ Some Cross ∷ Some Slash ∷ [])
         ≡ [] ∷ codes "<path class=\"sign\" d=\"M176 204l4 4m0-4l-4 4\"/>"
         ∷ codes "<path class=\"sign\" d=\"M176 204m0 4l4-4\"/>" ∷ [] }
-    ensures failed_bar { bar_text five_lanes (bar_from 7 None 2 (end_at 4 (Completed 3)))
+    ensures failed_bar { bar_text five_lanes [] (bar_from 7 None 2 (end_at 4 (Completed 3)))
         ≡ codes "<g><title>entry 7, on e1 from step 2 to 4: completed 03</title><rect class=\"failu"
         ++ codes "re\" x=\"140\" y=\"200\" width=\"28\" height=\"11\" rx=\"2\"/><text class=\"labe"
         ++ codes "l\" x=\"142\" y=\"209\">7</text><path class=\"sign\" d=\"M162 204l4 4m0-4l-4 4\""
@@ -343,17 +413,18 @@ pub fn engines()
     ensures boxed { box_part_text (codes "waits") 2 5 200
         ≡ codes "<rect class=\"waits\" x=\"140\" y=\"200\" width=\"42\" height=\"11\" rx=\"2\"/>" }
     ensures not_boxed { box_part_text (codes "waits") 5 5 200 ≡ [] }
-    ensures bar { bar_text five_lanes
+    ensures bar { bar_text five_lanes []
         (record (bar_from 12 (Some 7) 2 (end_at 8 (Completed 1))) { started = Some 4; lane = 1 })
         ≡ codes "<g><title>entry 12, member of batch 7, on e1 from step 2 to 8: completed 01</title"
         ++ codes "><rect class=\"waits\" x=\"140\" y=\"239\" width=\"28\" height=\"11\" rx=\"2\"/>"
         ++ codes "<rect class=\"success\" x=\"168\" y=\"239\" width=\"56\" height=\"11\" rx=\"2\"/"
         ++ codes "><text class=\"label\" x=\"142\" y=\"248\">12</text></g>\n" }
-    ensures held { bar_text five_lanes (record (bar_from 12 None 2 None) { started = None })
+    ensures held { bar_text five_lanes []
+        (record (bar_from 12 None 2 None) { started = None })
         ≡ codes "<g><title>entry 12, on e1 from step 2, still held</title><rect class=\"waits\" x="
         ++ codes "\"140\" y=\"200\" width=\"98\" height=\"11\" rx=\"2\"/><text class=\"label\" x="
         ++ codes "\"142\" y=\"209\">12</text></g>\n" }
-    ensures other_engine { bars_text 0 five_lanes (bar_from 12 None 2 None ∷ []) ≡ [] }
+    ensures other_engine { bars_text 0 five_lanes [] (bar_from 12 None 2 None ∷ []) ≡ [] }
     ensures batch { batches_text 1 five_lanes
         (record (bar_from 12 None 2 (end_at 8 Abandoned)) { is_batch = true; lane = 1 } ∷ [])
         ≡ codes "<rect class=\"batch\" x=\"140\" y=\"213\" width=\"84\" height=\"52\"><title>ba"
@@ -380,18 +451,34 @@ pub fn labels()
     ensures fitting_beside { map (is_fitting 14 (bar_from 9 None 2 (end_at 5 (Completed 3))))
         (codes "1" ∷ codes "12" ∷ [])
         ≡ true ∷ false ∷ [] }
-    ensures details { map (λ detail. label_with detail bar_of_a_move)
+    ensures details { map (λ detail. label_with None detail bar_of_a_move)
         (Name ∷ Operation ∷ Pasid ∷ [])
         ≡ codes "12" ∷ codes "12 move" ∷ codes "12 move PASID 5" ∷ [] }
-    ensures unknown { map (λ detail. label_with detail (bar_from 12 None 2 None))
+    ensures details_with_own { map (λ detail. label_with (Some (codes "a<b")) detail bar_of_a_move)
+        (Name ∷ Operation ∷ Pasid ∷ [])
+        ≡ codes "12 a<b" ∷ codes "12 a<b move" ∷ codes "12 a<b move PASID 5" ∷ [] }
+    ensures unknown { map (λ detail. label_with None detail (bar_from 12 None 2 None))
         (Name ∷ Operation ∷ Pasid ∷ [])
         ≡ codes "12" ∷ codes "12" ∷ codes "12" ∷ [] }
     ensures other_operation { operation_part (Some (record fill { op = 0xab }))
         ≡ codes " operation 0xab" }
-    ensures narrow { bar_label_text (bar_from 100 None 2 None) 2 3 209 ≡ [] }
-    ensures wide { bar_label_text (bar_from 100 None 2 None) 2 4 209
+    ensures narrow { map (λ own. bar_label_text (bar_from 100 None 2 None) own 2 3 209)
+        (None ∷ Some (codes "a") ∷ [])
+        ≡ [] ∷ [] ∷ [] }
+    ensures wide { bar_label_text (bar_from 100 None 2 None) None 2 4 209
         ≡ codes "<text class=\"label\" x=\"142\" y=\"209\">100</text>" }
-    ensures wider { map (λ end. bar_label_text bar_of_a_move 2 end 209) (5 ∷ 6 ∷ 8 ∷ 9 ∷ [])
+    ensures lengths { map (λ wide. label_of wide bar_of_a_move (Some (codes "a<b")))
+        (13 ∷ 14 ∷ 37 ∷ 38 ∷ 67 ∷ 68 ∷ 115 ∷ 116 ∷ [])
+        ≡ None ∷ Some (codes "12") ∷ Some (codes "12") ∷ Some (codes "12 a<b")
+        ∷ Some (codes "12 a<b") ∷ Some (codes "12 a<b move") ∷ Some (codes "12 a<b move")
+        ∷ Some (codes "12 a<b move PASID 5") ∷ [] }
+    ensures too_long { map (λ wide. label_of wide bar_of_a_move (Some (replicate 40 97)))
+        (43 ∷ 44 ∷ 92 ∷ 259 ∷ [])
+        ≡ Some (codes "12") ∷ Some (codes "12 move") ∷ Some (codes "12 move PASID 5")
+        ∷ Some (codes "12 move PASID 5") ∷ [] }
+    ensures escaped { bar_label_text bar_of_a_move (Some (codes "a<b")) 2 5 209
+        ≡ codes "<text class=\"label\" x=\"142\" y=\"209\">12 a&lt;b</text>" }
+    ensures wider { map (λ end. bar_label_text bar_of_a_move None 2 end 209) (5 ∷ 6 ∷ 8 ∷ 9 ∷ [])
         ≡ codes "<text class=\"label\" x=\"142\" y=\"209\">12</text>"
         ∷ codes "<text class=\"label\" x=\"142\" y=\"209\">12 move</text>"
         ∷ codes "<text class=\"label\" x=\"142\" y=\"209\">12 move</text>"
@@ -513,7 +600,7 @@ pub fn ranges()
         (moments_of_a_batch levels))
         (0 ∷ 4 ∷ 5 ∷ [])
         ≡ 0 ∷ 0 ∷ 1 ∷ [] }
-    ensures bars { map (λ bar. boxes_text steps_two_to_four bar 200)
+    ensures bars { map (λ bar. boxes_text steps_two_to_four bar None 200)
         (bar_from 7 None 0 (end_at 3 (Completed 1)) ∷ bar_from 7 None 3 None ∷ [])
         ≡ (codes "<rect class=\"success\" x=\"112\" y=\"200\" width=\"14\" height=\"11\" rx=\"2\"/"
         ++ codes "><text class=\"label\" x=\"114\" y=\"209\">7</text>")
@@ -610,7 +697,7 @@ pub fn levels_and_lines()
     ensures no_batch { batch_after (standing caps_of_a_run 9 (take 7 records_of_a_run))
         (stepped (event.Dispatch 0) (reply.Poll Nothing))
         ≡ None }
-    ensures other_engine { bars_text 1 five_lanes
+    ensures other_engine { bars_text 1 five_lanes []
         (record (bar_from 12 None 2 None) { engine = 0 } ∷ bar_from 100 None 8 None ∷ [])
         ≡ codes "<g><title>entry 100, on e1 from step 8, still held</title><rect class=\"held\" x="
         ++ codes "\"224\" y=\"200\" width=\"14\" height=\"11\" rx=\"2\"/></g>\n" }
@@ -723,11 +810,11 @@ pub fn drawings()
         ++ (style_text
         ++ codes "<rect class=\"sheet\" y=\"-28\" width=\"210\" height=\"546\"/>\n<path class=\"gri"
         ++ codes "d\" d=\"M112 80v231\"/>\n<text x=\"114\" y=\"91\">0</text>\n<rect class=\"column"
-        ++ codes "\" x=\"112\" y=\"80\" width=\"14\" height=\"231\"><title>step 0: dispatch e0: id"
-        ++ codes "le</title></rect>\n<rect class=\"column\" x=\"126\" y=\"80\" width=\"14\" height"
-        ++ codes "=\"231\"><title>step 1: fetch e1 fill 0 bytes: fetched 0</title></rect>\n<rect c"
-        ++ codes "lass=\"column\" x=\"140\" y=\"80\" width=\"14\" height=\"231\"><title>step 2: fe"
-        ++ codes "tch e2 fill 0 bytes: fetched 1</title></rect>\n<text x=\"4\" y=\"91\">step</text"
+        ++ codes "\" x=\"112\" y=\"80\" width=\"14\" height=\"231\"><title>step 0: dispatch e0 -&g"
+        ++ codes "t; idle</title></rect>\n<rect class=\"column\" x=\"126\" y=\"80\" width=\"14\" he"
+        ++ codes "ight=\"231\"><title>step 1: fetch e1 fill 0 bytes -&gt; fetched 0</title></rect>"
+        ++ codes "\n<rect class=\"column\" x=\"140\" y=\"80\" width=\"14\" height=\"231\"><title>st"
+        ++ codes "ep 2: fetch e2 fill 0 bytes -&gt; fetched 1</title></rect>\n<text x=\"4\" y=\"91\">step</text"
         ++ codes ">\n<text x=\"4\" y=\"107\">clients</text>\n<text x=\"4\" y=\"123\">administrator"
         ++ codes "</text>\n<text x=\"4\" y=\"139\">device</text>\n<text x=\"4\" y=\"155\">active</"
         ++ codes "text>\n<text x=\"4\" y=\"171\">fates</text>\n<path class=\"grid\" d=\"M112 96h42"
@@ -763,12 +850,12 @@ pub fn bars_of_numbers()
     ensures client { map (λ name. submitter_in name (Some 3 ∷ None ∷ Some 4 ∷ []))
         (0 ∷ 1 ∷ 2 ∷ 3 ∷ [])
         ≡ Some 3 ∷ None ∷ Some 4 ∷ None ∷ [] }
-    ensures cells { map cell_brought
+    ensures tickets { map ticket_brought
         (reply.Submit (submit.Accepted (record_ticket 3 6))
         ∷ reply.Dispatch (dispatch.Taken (record_ticket 3 6) 0)
         ∷ reply.Fetch (fetch.Fetched (record_ticket 4 7))
         ∷ reply.Start (start.Started (record_ticket 4 7)) ∷ [])
-        ≡ None ∷ Some (record { 0 = 3 }) ∷ Some (record { 0 = 4 }) ∷ None ∷ [] }
+        ≡ None ∷ Some (record_ticket 3 6) ∷ Some (record_ticket 4 7) ∷ None ∷ [] }
     ensures descriptors { map (desc_brought device_of_a_drawing)
         (stepped (event.Dispatch 1) (reply.Dispatch (dispatch.Taken (record_ticket 3 6) 0))
         ∷ stepped (event.Dispatch 1) (reply.Dispatch (dispatch.Taken (record_ticket 4 6) 0))
@@ -776,6 +863,15 @@ pub fn bars_of_numbers()
         ∷ Refused no_command
         ∷ [])
         ≡ Some fill ∷ None ∷ None ∷ None ∷ [] }
+    ensures own_names { map (own_brought
+        ((5, codes "a") ∷ (6, codes "b") ∷ (7, codes "c") ∷ (6, codes "d") ∷ []))
+        (stepped (event.Dispatch 1) (reply.Dispatch (dispatch.Taken (record_ticket 5 6) 0))
+        ∷ stepped (event.Fetch 1 fill) (reply.Fetch (fetch.Fetched (record_ticket 5 7)))
+        ∷ stepped (event.Fetch 1 fill) (reply.Fetch (fetch.Fetched (record_ticket 5 8)))
+        ∷ stepped (event.Start 1) (reply.Start (start.Started (record_ticket 5 6)))
+        ∷ Refused no_command
+        ∷ [])
+        ≡ Some (codes "b") ∷ Some (codes "c") ∷ None ∷ None ∷ None ∷ [] }
     ensures of_names { (levels : Vec Level Global)
         → bars_of (moments_of_a_third_name levels)
         (record (ended_row 3 (Completed 1)) { parent = Some 2 } ∷ ended_row 2 (Completed 3) ∷ [])
@@ -804,56 +900,84 @@ pub fn bars_of_numbers()
 /// not of it, each by one part.
 pub fn drawn_of_a_device()
     ensures moment { (memory : Global)
-        → IsMomentOf 3 device_of_a_drawing (idle_step 1) (moment_of_a_device memory) }
+        → IsMomentOf step_of_a_device (moment_of_a_device memory) }
     ensures other_number { (memory : Global)
-        → ¬ IsMomentOf 4 device_of_a_drawing (idle_step 1) (moment_of_a_device memory) }
+        → ¬ IsMomentOf (named_visit [] (record visit_of_a_device { number = 4 }))
+        (moment_of_a_device memory) }
+    ensures no_reason { (memory : Global)
+        → ¬ IsMomentOf step_of_a_device (moment_with_reason memory (no_reason memory)) }
+    ensures reason_after { (memory : Global)
+        → ¬ IsMomentOf step_of_a_device
+        (moment_with_reason memory
+        (text_with_bytes memory of_no_group (lit≤ tt) no_group_is_utf8)) }
+    ensures reason_of_a_poll { (memory : Global)
+        → ¬ IsMomentOf step_of_a_device
+        (moment_with_reason memory
+        (text_with_bytes memory of_no_command (lit≤ tt) no_command_is_utf8)) }
     ensures other_phase { (memory : Global)
-        → ¬ IsMomentOf 3 device_of_a_drawing (idle_step 1)
+        → ¬ IsMomentOf step_of_a_device
         (record (moment_of_a_device memory) { phase = Stopping }) }
     ensures other_entry { (memory : Global)
-        → ¬ IsMomentOf 3 device_of_a_drawing
-        (stepped (event.Dispatch 1) (reply.Dispatch dispatch.Full)) (moment_of_a_device memory) }
+        → ¬ IsMomentOf
+        (named_visit []
+        (record visit_of_a_device
+        { entry = stepped (event.Dispatch 1) (reply.Dispatch dispatch.Full) }))
+        (moment_of_a_device memory) }
     ensures other_queue { (memory : Global)
-        → ¬ IsMomentOf 3 device_of_a_drawing (idle_step 1)
+        → ¬ IsMomentOf step_of_a_device
         (record (moment_of_a_device memory) { queues = vector memory [] (lit≤ tt) }) }
     ensures other_groups { (memory : Global)
-        → ¬ IsMomentOf 3 device_of_a_drawing (idle_step 1)
+        → ¬ IsMomentOf step_of_a_device
         (record (moment_of_a_device memory) { groups = vector memory [] (lit≤ tt) }) }
     ensures other_batch { (memory : Global)
-        → ¬ IsMomentOf 3 device_of_a_drawing (idle_step 1)
+        → ¬ IsMomentOf step_of_a_device
         (record (moment_of_a_device memory) { batch = Some 3 }) }
     ensures other_descriptor { (memory : Global)
-        → ¬ IsMomentOf 3 device_of_a_drawing (idle_step 1)
+        → ¬ IsMomentOf step_of_a_device
         (record (moment_of_a_device memory) { desc = Some fill }) }
     ensures other_count { (memory : Global)
-        → ¬ IsMomentOf 3 device_of_a_drawing (idle_step 1)
+        → ¬ IsMomentOf step_of_a_device
         (record (moment_of_a_device memory) { ended = 1 }) }
+    ensures named { (memory : Global)
+        → IsMomentOf step_with_names (moment_with_names memory) }
+    ensures no_note { (memory : Global)
+        → ¬ IsMomentOf step_with_names
+        (record (moment_with_names memory) { note = no_reason memory }) }
+    ensures other_note { (memory : Global)
+        → ¬ IsMomentOf step_of_a_device
+        (record (moment_of_a_device memory) {
+          note = text_with_bytes memory of_a_note (lit≤ tt) note_is_utf8;
+        }) }
+    ensures no_own_name { (memory : Global)
+        → ¬ IsMomentOf step_with_names (record (moment_with_names memory) { own = None }) }
+    ensures other_names { (memory : Global)
+        → ¬ IsMomentOf (named_visit [] visit_with_names) (moment_with_names memory) }
     ensures moments { (memory : Global)
-        → AreMoments (visit_of_a_device ∷ []) (moment_of_a_device memory ∷ []) }
+        → AreMoments (step_of_a_device ∷ []) (moment_of_a_device memory ∷ []) }
     ensures no_moment { AreMoments [] [] }
     ensures one_more { (memory : Global)
         → ¬ AreMoments [] (moment_of_a_device memory ∷ []) }
     ensures two_of_one_step { (memory : Global)
-        → ¬ AreMoments (visit_of_a_device ∷ [])
+        → ¬ AreMoments (step_of_a_device ∷ [])
         (moment_of_a_device memory ∷ moment_of_a_device memory ∷ []) }
     ensures other_moment { (memory : Global)
-        → ¬ AreMoments (visit_of_a_device ∷ [])
+        → ¬ AreMoments (step_of_a_device ∷ [])
         (record (moment_of_a_device memory) { ended = 1 } ∷ []) }
     ensures story { (memory : Global)
-        → IsStoryOf (visit_of_a_device ∷ []) device_of_a_drawing (story_of_a_device memory) }
+        → IsStoryOf (step_of_a_device ∷ []) device_of_a_drawing (story_of_a_device memory) }
     ensures other_caps { (memory : Global)
-        → ¬ IsStoryOf (visit_of_a_device ∷ []) device_of_a_drawing
+        → ¬ IsStoryOf (step_of_a_device ∷ []) device_of_a_drawing
         (record (story_of_a_device memory) { caps = caps_of_a_run }) }
     ensures other_story { (memory : Global)
-        → ¬ IsStoryOf (visit_of_a_device ∷ []) device_of_a_drawing
+        → ¬ IsStoryOf (step_of_a_device ∷ []) device_of_a_drawing
         (story_with memory (record (moment_of_a_device memory) { ended = 1 })) }
     ensures other_fates { (memory : Global)
-        → ¬ IsStoryOf (visit_of_a_device ∷ []) device_of_a_drawing
+        → ¬ IsStoryOf (step_of_a_device ∷ []) device_of_a_drawing
         (record (story_of_a_device memory) { fates = vector memory [] (lit≤ tt) }) }
     ensures drawn { (memory : Global)
-        → IsDrawnOf all_steps (visit_of_a_device ∷ []) device_of_a_drawing
+        → IsDrawnOf all_steps (step_of_a_device ∷ []) device_of_a_drawing
         (drawing_text all_steps (story_of_a_device memory)) }
-    ensures no_text { ¬ IsDrawnOf all_steps (visit_of_a_device ∷ []) device_of_a_drawing [] }
+    ensures no_text { ¬ IsDrawnOf all_steps (step_of_a_device ∷ []) device_of_a_drawing [] }
     ensures text_of_a_step { (memory : Global)
         → ¬ IsDrawnOf all_steps [] device_of_a_drawing
         (drawing_text all_steps (story_of_a_device memory)) }

@@ -1,15 +1,17 @@
 //! A run with a moment after each step, and its drawing.
 
-ghost use Rattle.std.specs.Prelude.{◌≡◌, [], None};
-ghost use Rattle.dsa_draw.specs.Drawings.{AreMoments, IsDrawnOf, IsDrawingOf};
+ghost use Rattle.dsa_explain_lines.specs.Parts.{part_of};
+ghost use Rattle.dsa_draw.specs.Drawings.{AreMoments, IsDrawnOf};
 
 use crate::drawing::draw;
 use crate::moment::{Moment, take_moment};
 use crate::range::StepRange;
 use dsa_book::FateRow;
 use dsa_device::Device;
+use dsa_explain_lines::Explanation;
+use dsa_named::{OwnName, RenderNamed};
 use dsa_regs::Caps;
-use dsa_scenario::{Added, Asked, MadeText, Render, RenderSteps, Rendered, StepMade, render_steps};
+use dsa_scenario::{Added, Asked, MadeText, RenderSteps, StepMade};
 use dsa_store::EntryStore;
 use std::alloc::Global;
 
@@ -23,17 +25,19 @@ pub struct Story {
     pub fates: Vec<FateRow>,
 }
 
-/// The drawing of a document's run, as a way to make a text of it.
+/// The drawing of a document's run. [`WithNames`](dsa_named::WithNames) makes of it a text of a
+/// document.
 #[derive(Clone, Copy, Debug, PartialEq, Eq)]
 pub struct Drawing {
     /// The steps that have a column.
     pub steps: StepRange,
 }
 
-impl RenderSteps for Drawing {
+// As of an explanation, the reason of an answer is read of the device before the step.
+impl RenderNamed for Drawing {
     type Page = Vec<Moment>;
 
-    ghost told_before = { λ drawing now asked. [] };
+    ghost told_before = { λ drawing now asked. part_of now asked };
 
     ghost is_page = { λ drawing steps page. AreMoments steps page.items };
 
@@ -43,12 +47,17 @@ impl RenderSteps for Drawing {
         Vec::new(alloc)
     }
 
-    fn look<S: EntryStore>(&self, alloc: Global, _device: &Device<S>, _asked: &Asked) -> MadeText {
-        Ok(String::new(alloc))
+    fn look<S: EntryStore>(&self, alloc: Global, device: &Device<S>, asked: &Asked) -> MadeText {
+        Explanation.look(alloc, device, asked)
     }
 
-    fn add_step<S: EntryStore>(&self, page: &mut Vec<Moment>, step: &StepMade<'_, S>) -> Added {
-        let moment = take_moment(step.alloc, step.number, step.device, *step.entry)?;
+    fn add_step<S: EntryStore>(
+        &self,
+        page: &mut Vec<Moment>,
+        step: &StepMade<'_, S>,
+        names: &[OwnName<'_>],
+    ) -> Added {
+        let moment = take_moment(step, names)?;
         page.push(moment)?;
         Ok(())
     }
@@ -67,14 +76,5 @@ impl RenderSteps for Drawing {
             fates,
         };
         draw(alloc, &story, self.steps)
-    }
-}
-
-impl Render for Drawing {
-    ghost is_rendering = { λ drawing bytes fault text. (fault ≡ None)
-        × IsDrawingOf drawing.steps bytes text };
-
-    fn render(&self, alloc: Global, bytes: &[u8]) -> Rendered {
-        render_steps(alloc, self, bytes)
     }
 }

@@ -1,10 +1,10 @@
 -- The JSON that texts of members and of objects are.
 use Rattle.std.proofs.Common.{◌≡◌, ℕ, ◌≤◌, Bool, true, false, List, [], ◌∷◌, ◌++◌, Option, Some, option_and_then, option_map}
 use Rattle.std.proofs.Common.{codes, refl, sym, ap, ap₂, ◌∙◌, subst, arith, append_assoc, append-nil}
-use Rattle.std.proofs.Common.{suc, map, inl, inr}
+use Rattle.std.proofs.Common.{suc, map, inl}
 use Rattle.std.specs.Prelude.{⊤, max}
 use Rattle.json.specs.Token.{Token, begin_object, end_object, key}
-use Rattle.json.specs.{Lex.{tokens}, Print.{token_text, ends, separator, print, quoted, ArePrintable}, Spaced.{IsGap}}
+use Rattle.json.specs.{Lex.{tokens}, Print.{token_text, separator, print, quoted}, Spaced.{IsGap}}
 use Rattle.json.specs.Json as json
 use Rattle.json.specs.Tree as tree
 use Rattle.json.specs.Tree.{json_tokens, items_tokens, members_tokens, HasNumbers, MembersHaveNumbers, ItemsHaveNumbers}
@@ -14,9 +14,9 @@ use Rattle.serde_json.specs.Data.{no_members, member, put, depth, items_depth, m
 use Rattle.serde_json.specs.Read.{read, of_json, of_items, of_members, max_depth}
 use Rattle.serde_json.specs.Written.{outline, items_outline, members_outline, blank, blank_items, blank_members}
 use Rattle.serde_json.specs.View.{items_of}
-use Rattle.dsa_expand.specs.Steps.{Pair, put_all, object_with}
+use Rattle.dsa_expand.specs.{Steps.{Pair, put_all, object_with}, Members.{AreShallow}}
 use Rattle.dsa_expand.specs.Layout.{IsValueText, AreMembersTexts, IsObjectText, AreObjectsTexts, key_with_colon}
-use Rattle.dsa_expand.proofs.Spaced.{after, after-append, Spaced, spaced-append, spaced-by, spaced-after, spaced-nil}
+use Rattle.dsa_expand.proofs.Spaced.{after, Spaced, spaced-append, spaced-by, spaced-after, spaced-nil}
 use Rattle.dsa_expand.proofs.Spaced.{spaced-token, spaced-json, spaced-close_object, after-json}
 
 -- ---- depths of what is written
@@ -106,11 +106,6 @@ AreJsonsOf n [] [] = ⊤
 AreJsonsOf n [] (q ∷ qs) = ⊥
 AreJsonsOf n (p ∷ ps) [] = ⊥
 AreJsonsOf n (p ∷ ps) (q ∷ qs) = (q.0 ≡ p.0) × IsJsonOf n p.1 q.1 × AreJsonsOf n ps qs
-
--- the values of members nest no deeper
-abbrev pub AreShallow : ℕ → List Pair → Type 0
-AreShallow n [] = ⊤
-AreShallow n (p ∷ ps) = (depth p.1 ≤ n) × AreShallow n ps
 
 pub before-tokens : (js : Jsons) (ms : json.Members)
     → members_tokens (before js ms) ≡ jsons_tokens js ++ members_tokens ms

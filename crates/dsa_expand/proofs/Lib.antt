@@ -4,6 +4,10 @@ pub mod Spaced
 pub mod Jsons
 pub mod ReadBack
 pub mod Shallow
+pub mod AtKeys
+pub mod Plain
+pub mod Faultless
 pub mod Texts
 pub mod Walked
 pub mod Whole
+pub mod Stuck

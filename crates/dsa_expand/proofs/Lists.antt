@@ -1,14 +1,14 @@
 -- Lists, one item after the other.
-use Rattle.std.proofs.Common.{◌≡◌, ◌<◌, ◌≤◌, ◌+◌, ℕ, Bool, List, [], ◌∷◌, Some, map, drop, get_or, length, refl, sym, ap, ◌∙◌}
-use Rattle.std.proofs.Common.{take, append_assoc, append-nil, ◌++◌}
-use Rattle.std.proofs.lemmas.List.{drop_more, take_more, length-map, map-append}
+use Rattle.std.proofs.Common.{◌≡◌, ◌<◌, ◌+◌, ℕ, Bool, List, [], ◌∷◌, Some, map, drop, get_or, length, refl, sym, ap, ◌∙◌}
+use Rattle.std.proofs.Common.{take, ◌++◌}
+use Rattle.std.proofs.lemmas.List.{drop_more, take_more, length-map}
 use Rattle.std.proofs.Math.ListN.{get_or-map}
 use Rattle.std.specs.{List.{list_any, list_all}, Prelude.{String, string_bytes}}
 use Rattle.std.specs.declared.alloc.Global.{Global}
-use Rattle.serde_json.specs.{Data.{Data, Members}, Find.{as_object}, declared.value.Value.{Value}}
-use Rattle.serde_json.specs.View.{view, items_of, items_view, members_view}
+use Rattle.serde_json.specs.{Data.{Data}, Find.{as_object}, declared.value.Value.{Value}}
+use Rattle.serde_json.specs.View.{view, items_of, members_view}
 use Rattle.dsa_scenario.specs.Document.{list_of_items}
-use Rattle.dsa_expand.specs.{Values.{pairs_of_object, pairs_of, pairs_in}, Steps.{Pair}}
+use Rattle.dsa_expand.specs.{Values.{pairs_of, pairs_in}, Steps.{Pair}}
 
 -- the item at a place, and those after it
 pub next_of : {X : Type 0} (xs : List X) (i : ℕ) (x : X) → i < length xs → x ≡ get_or xs i x

@@ -1,20 +1,23 @@
 -- The text of a strict document is read as that document.
 use Rattle.std.proofs.Common.{◌≡◌, ℕ, ◌≤◌, Bool, true, false, List, [], ◌∷◌, ◌++◌, Some, option_and_then, option_map}
-use Rattle.std.proofs.Common.{codes, refl, sym, ap, ap₂, ◌∙◌, subst, arith, append_assoc, append-nil, inl, inr}
-use Rattle.json.specs.Token.{Token, begin_object, end_object, begin_array, end_array, key}
+use Rattle.std.proofs.Common.{codes, refl, sym, ap, ◌∙◌, subst, arith, append_assoc, append-nil, inl, inr}
+use Rattle.json.specs.Token.{begin_object, end_object, begin_array, end_array, key}
 use Rattle.json.specs.{Lex.{tokens}, Print.{escape_byte, ArePrintable}, Spaced.{IsGap}}
+use Rattle.json.proofs.Found.{Some_inj}
+use Rattle.dsa_scenario.specs.Document.{IsJson}
 use Rattle.json.specs.Json as json
 use Rattle.json.specs.Tree as tree
 use Rattle.json.specs.Tree.{json_tokens, members_tokens, HasNumbers}
 use Rattle.json.proofs.Printed.{Tokens.{tokens-print_spaced}, Trees.{value-json_tokens, ArePrintable-json_tokens}}
 use Rattle.serde_json.specs.{Data.{Data, array, object, no_members, put}, Read.{read, of_json, of_members, max_depth}}
-use Rattle.dsa_expand.specs.{Steps.{Pair, put_all}, Layout.{IsDocumentText}, Expansion.{strict_document}}
+use Rattle.dsa_expand.specs.{Steps.{Pair, object_with, put_all}, Members.{AreShallow}, Expansion.{strict_document}}
+use Rattle.dsa_expand.specs.Layout.{IsDocumentText, IsObjectText}
 use Rattle.dsa_expand.proofs.Spaced.{after, after-append, after-json, Spaced, spaced-append, spaced-by, spaced-after}
 use Rattle.dsa_expand.proofs.Spaced.{spaced-token, spaced-close_array, spaced-close_object}
-use Rattle.dsa_expand.proofs.Jsons.{whole, Jsons, jsons_tokens, before, AreJsonsOf, AreShallow, before-tokens}
+use Rattle.dsa_expand.proofs.Jsons.{whole, Jsons, jsons_tokens, before, AreJsonsOf, before-tokens}
 use Rattle.dsa_expand.proofs.Jsons.{before-read, before-numbers, before-shallow, spaced-members, items_json}
 use Rattle.dsa_expand.proofs.Jsons.{objects_tokens, AreAllShallow, AreAllJsonsOf, items-tokens, items-read, items-numbers}
-use Rattle.dsa_expand.proofs.Jsons.{items-shallow, spaced-objects}
+use Rattle.dsa_expand.proofs.Jsons.{items-shallow, spaced-objects, object-of, object_json, spaced-object}
 
 -- a value has ended after members
 ends-jsons : (c : Bool) (q : List ℕ × json.Json) (qs : Jsons) → after c (jsons_tokens (q ∷ qs)) ≡ true
@@ -91,6 +94,18 @@ spaced-document p ps pss text shallow flat (members, objects, inside, steps, e) 
 
 -- ---- and what is read of it
 
+-- a text of the tokens of some JSON is read as its value
+reads_spaced : (d : Data) (j : json.Json) (text : List ℕ) → of_json j ≡ Some d → HasNumbers j → tree.depth j ≤ 127
+    → Spaced false text (json_tokens j) → read text ≡ Some d
+reads_spaced d j text reads numbers deep spaced =
+    let printable : ArePrintable (json_tokens j) = ArePrintable-json_tokens j numbers in
+    let same : tokens text ≡ json_tokens j =
+    ap tokens (sym spaced.is)
+    ∙ tokens-print_spaced spaced.parts spaced.gaps (subst ArePrintable (sym spaced.made) printable) ∙ spaced.made in
+    let valued : json.value max_depth (tokens text) ≡ Some (j, []) =
+    ap (json.value max_depth) (same ∙ sym (append-nil (json_tokens j))) ∙ value-json_tokens j max_depth [] deep in
+    ap whole valued ∙ reads
+
 document-reads : (head : List Pair) (pss : List (List Pair)) (js : Jsons) (jss : List Jsons) → AreJsonsOf 126 head js
     → AreAllJsonsOf 124 pss jss → of_json (document_json js jss) ≡ Some (strict_document head pss)
 document-reads head pss js jss h k =
@@ -107,15 +122,24 @@ reads_as p ps pss text shallow flat t =
     let js = found.0 in
     let jss = found.1 in
     let j = document_json js jss in
-    let spaced = found.4 in
     let deep : tree.depth j ≤ 127 =
     omega (arith, before-shallow 126 (p ∷ ps) js (steps_json jss) found.2 (omega (arith, items-shallow 124 pss jss found.3))) in
     let numbers : HasNumbers j =
     before-numbers 126 (p ∷ ps) js (steps_json jss) found.2 (items-numbers 124 pss jss found.3, tt) in
-    let printable : ArePrintable (json_tokens j) = ArePrintable-json_tokens j numbers in
-    let same : tokens text ≡ json_tokens j =
-    ap tokens (sym spaced.is)
-    ∙ tokens-print_spaced spaced.parts spaced.gaps (subst ArePrintable (sym spaced.made) printable) ∙ spaced.made in
-    let valued : json.value max_depth (tokens text) ≡ Some (j, []) =
-    ap (json.value max_depth) (same ∙ sym (append-nil (json_tokens j))) ∙ value-json_tokens j max_depth [] deep in
-    ap whole valued ∙ document-reads (p ∷ ps) pss js jss found.2 found.3
+    reads_spaced (strict_document (p ∷ ps) pss) j text (document-reads (p ∷ ps) pss js jss found.2 found.3) numbers deep
+    found.4
+
+-- ---- a step alone
+
+pub object_reads : (ps : List Pair) (text : List ℕ) → AreShallow 126 ps → IsObjectText ps text
+    → read text ≡ Some (object_with ps)
+object_reads ps text shallow t =
+    let found = spaced-object 126 false [] [] ps text (tt, refl) (omega arith) shallow t in
+    let is = object-of 126 ps found.0 found.1 in
+    reads_spaced (object_with ps) (object_json found.0) text is.reads is.numbers is.shallow found.2
+
+-- what is read of such bytes
+pub object_is : (ps : List Pair) (bytes text : List ℕ) (d : Data) → AreShallow 126 ps → IsObjectText ps text
+    → bytes ≡ text → IsJson bytes d → d ≡ object_with ps
+object_is ps bytes text d shallow t same json =
+    Some_inj d (object_with ps) (sym json.value ∙ ap read same ∙ object_reads ps text shallow t)

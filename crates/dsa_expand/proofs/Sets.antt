@@ -1,5 +1,5 @@
 -- One number more of a set.
-use Rattle.std.proofs.Common.{◌≡◌, ◌<◌, ◌+◌, ◌*◌, ◌^◌, ◌%◌, ℕ, List, ◌∷◌, Option, Some, map, drop, get_or, length, subst, arith}
+use Rattle.std.proofs.Common.{◌≡◌, ◌<◌, ◌+◌, ◌*◌, ◌^◌, ◌%◌, ℕ, List, Option, Some, map, drop, get_or, length, arith}
 use Rattle.std.proofs.lemmas.Nat.{one_shl, or_lt}
 use Rattle.std.proofs.Math.Pow.{pow-lt}
 use Rattle.std.specs.Int.Bits.{bit_or}

@@ -1,8 +1,9 @@
 -- What is written nests no deeper than what was read.
-use Rattle.dsa_scenario.specs.declared.actions.StepKind.TheVariants as kind
 use Rattle.std.proofs.Common.{◌≡◌, ◌≤◌, ℕ, suc, Bool, true, false, List, [], ◌∷◌, ◌++◌, Ordering, Less, Equal, Greater}
-use Rattle.std.proofs.Common.{Option, Some, None, option_and_then, option_map, map, refl, sym, subst, arith, codes}
-use Rattle.std.proofs.Common.{◌^◌, ◌∙◌}
+use Rattle.std.proofs.Common.{Option, Some, None, option_and_then, option_map, map, refl, subst, arith, codes}
+use Rattle.std.proofs.Common.{◌<◌, ◌^◌, ◌∙◌, zero, length, get_or, drop}
+use Rattle.serde_json.specs.{View.{view}, declared.value.Value.{Value}}
+use Rattle.dsa_expand.proofs.Lists.{next_of}
 use Rattle.json.proofs.Found.{Some_inj}
 use Rattle.std.proofs.Common.{ap}
 use Rattle.std.specs.Prelude.{if◌then◌else◌, not, filter, is_some, ⊤, bytes_eq, ◌||◌}
@@ -10,18 +11,19 @@ use Rattle.std.specs.Ordering.{match_ordering, nat_cmp}
 use Rattle.std.specs.Cmp.Lexicographic.{slice_cmp}
 use Rattle.serde_json.specs.Data.{Data, null, boolean, number, string, array, object, Items, no_items, item, Members}
 use Rattle.serde_json.specs.Data.{no_members, member, depth, items_depth, members_depth}
-use Rattle.serde_json.specs.Find.{get, get_member, as_array, as_object}
+use Rattle.serde_json.specs.Find.{get, get_member, as_array}
 use Rattle.dsa_regs.specs.declared.Caps.{Caps}
 use Rattle.dsa_scenario.specs.{Fields.{Row, whole_of}, Actions.{caps_of, kind_of, kind_text, rows_of_kind, action_of}}
 use Rattle.dsa_scenario.specs.{declared.actions.StepKind.{StepKind}, Document.{head_of, list_of_items}}
-use Rattle.dsa_expand.specs.Values.{pairs_in, pairs_of_object, pairs_of, set_of}
+use Rattle.dsa_expand.specs.Values.{pairs_in, pairs_of, set_of}
 use Rattle.dsa_expand.specs.{Commands.{word_said}, Descriptors.{descriptor_said, digits_of_descriptor}}
 use Rattle.dsa_expand.specs.Steps.{Pair, Given, Known, known_name, number_at, strict_descriptor, strict_set, strict_name}
 use Rattle.dsa_expand.specs.Steps.{strict_value, strict_word, strict_at, fields_onto, is_in_strict, other_members, strict_by}
 use Rattle.dsa_expand.specs.Steps.{with_given, if_step, object_with, strict_step}
 use Rattle.dsa_scenario.specs.declared.run.Record.{Record}
 use Rattle.dsa_expand.specs.Expansion.{AreStrictBy, pair_at, is_part, head_pairs}
-use Rattle.dsa_expand.proofs.Jsons.{AreShallow, AreAllShallow}
+use Rattle.dsa_expand.specs.Members.{AreFlat, AreShallow}
+use Rattle.dsa_expand.proofs.Jsons.{AreAllShallow}
 
 -- ---- optional values
 
@@ -140,12 +142,12 @@ at_shallow n known step key h =
     (then_at_most n (strict_value known key) (get key step) (value_shallow n known key) (get_at_most key n step h))
 
 -- what a second step gave, where the first gave a value
-second : {A B : Type 0} (f : A → Option B) (o : Option A) (b : B) → option_and_then f o ≡ Some b
+pub second : {A B : Type 0} (f : A → Option B) (o : Option A) (b : B) → option_and_then f o ≡ Some b
     → (a : A) × (o ≡ Some a) × (f a ≡ Some b)
 second f None b e = cc
 second f (Some a) b e = (a, refl, e)
 
-mapped : {A B : Type 0} (f : A → B) (o : Option A) (b : B) → option_map f o ≡ Some b
+pub mapped : {A B : Type 0} (f : A → B) (o : Option A) (b : B) → option_map f o ≡ Some b
     → (a : A) × (o ≡ Some a) × (f a ≡ b)
 mapped f None b e = cc
 mapped f (Some a) b e = (a, refl, cc)
@@ -165,24 +167,65 @@ checked : (b : Bool) (ps qs : List Pair) → (if b then Some ps else None) ≡ S
 checked true ps qs e = cc
 checked false ps qs e = cc
 
-pub step_shallow : (n : ℕ) (known : Known) (step : Data) (ps : List Pair) → depth step ≤ suc n
-    → strict_step known step ≡ Some ps → AreShallow n ps
-step_shallow n known step ps low e =
+-- the fields of a step, and its other members
+pub members_shallow : (n : ℕ) (known : Known) (kind : StepKind) (step : Data) (fields ps : List Pair) → depth step ≤ suc n
+    → fields_onto known step ((codes "do", string (kind_text kind)) ∷ []) (rows_of_kind kind) ≡ Some fields
+    → fields ++ other_members kind step ≡ ps → AreShallow n ps
+members_shallow n known kind step fields ps low made is =
+    let first = fields_shallow n known step ((codes "do", string (kind_text kind)) ∷ []) (rows_of_kind kind) fields low
+    (omega arith, tt) made in
+    subst (AreShallow n) is (append_shallow n fields (other_members kind step) first
+    (filter_shallow n (λ pair. not (is_in_strict kind step pair.0)) (pairs_of step) (pairs_shallow n step low)))
+
+-- the members of a step in its strict form
+pub strict_shallow : (n : ℕ) (known : Known) (kind : StepKind) (step : Data) (ps : List Pair) → depth step ≤ suc n
+    → strict_by known kind step ≡ Some ps → AreShallow n ps
+strict_shallow n known kind step ps low is =
+    let made = mapped (λ fields. fields ++ other_members kind step)
+    (fields_onto known step ((codes "do", string (kind_text kind)) ∷ []) (rows_of_kind kind)) ps is in
+    members_shallow n known kind step made.0 ps low made.1 made.2
+
+-- of which parts a strict step is made
+pub record IsMadeOf (known : Known) (step : Data) (ps : List Pair) : Type 0 where
+  pub kind : StepKind
+  pub fields : List Pair
+  pub named : kind_of step ≡ Some kind
+  pub made : fields_onto known step ((codes "do", string (kind_text kind)) ∷ []) (rows_of_kind kind) ≡ Some fields
+  pub all : fields ++ other_members kind step ≡ ps
+
+pub made_of_parts : (known : Known) (step : Data) (ps : List Pair) → strict_step known step ≡ Some ps
+    → IsMadeOf known step ps
+made_of_parts known step ps e =
     let by = second (λ kind. option_and_then if_step (strict_by known kind step)) (kind_of step) ps e in
     let kind = by.0 in
     let checks = second if_step (strict_by known kind step) ps by.2 in
     let made = mapped (λ fields. fields ++ other_members kind step)
     (fields_onto known step ((codes "do", string (kind_text kind)) ∷ []) (rows_of_kind kind)) checks.0 checks.1 in
-    let fields = fields_shallow n known step ((codes "do", string (kind_text kind)) ∷ []) (rows_of_kind kind) made.0 low
-    (omega arith, tt) made.1 in
-    let all = append_shallow n made.0 (other_members kind step) fields
-    (filter_shallow n (λ pair. not (is_in_strict kind step pair.0)) (pairs_of step) (pairs_shallow n step low)) in
-    subst (AreShallow n) (made.2 ∙ checked (is_some (action_of (object_with checks.0))) checks.0 ps checks.2) all
+    record {
+      kind = kind;
+      fields = made.0;
+      named = by.1;
+      made = made.1;
+      all = made.2 ∙ checked (is_some (action_of (object_with checks.0))) checks.0 ps checks.2;
+    }
 
--- values that nest no deeper
-abbrev pub AreFlat : ℕ → List Data → Type 0
-AreFlat n [] = ⊤
-AreFlat n (d ∷ ds) = (depth d ≤ n) × AreFlat n ds
+pub step_shallow : (n : ℕ) (known : Known) (step : Data) (ps : List Pair) → depth step ≤ suc n
+    → strict_step known step ≡ Some ps → AreShallow n ps
+step_shallow n known step ps low e =
+    let parts = made_of_parts known step ps e in
+    members_shallow n known parts.kind step parts.fields ps low parts.made parts.all
+
+-- ---- steps in turn
+
+flat_drop : (n i : ℕ) (vs : List Value) → AreFlat n (map view vs) → AreFlat n (map view (drop i vs))
+flat_drop n zero vs h = h
+flat_drop n (suc i) [] h = tt
+flat_drop n (suc i) (v ∷ vs) h = flat_drop n i vs h.1
+
+pub flat_at : (n i : ℕ) (vs : List Value) (v : Value) → i < length vs → v ≡ get_or vs i v → AreFlat n (map view vs)
+    → depth (view v) ≤ n
+flat_at n i vs v inside is h =
+    (subst (λ xs. AreFlat n (map view xs)) (next_of vs i v inside is) (flat_drop n i vs h)).0
 
 pub items_flat : (n : ℕ) (ds : Items) → items_depth ds ≤ n → AreFlat n (list_of_items ds)
 items_flat n no_items h = tt
@@ -208,30 +251,32 @@ pub record Parts (d : Data) (caps : Caps) (capacity : ℕ) (items : Items) : Typ
   pub steps_there : get (codes "steps") d ≡ Some steps_at
   pub listed : as_array steps_at ≡ Some items
 
-third : (A B C : Type 0) (a b : A) (c d : B) (e f : C)
-    → ◌≡◌ {A = Option (A × B × C)} (Some (a, c, e)) (Some (b, d, f)) → e ≡ f
-third A B C a b c d e f is = ap (λ t. t.2) (Some_inj {A = A × B × C} (a, c, e) (b, d, f) is)
+pub head_parts : (caps : Option Caps) (capacity : Option ℕ) (steps : Option Items) (t : Caps × ℕ × Items)
+    → option_and_then (λ c. option_and_then (λ n. option_and_then (λ ds. Some (c, n, ds)) steps) capacity) caps ≡ Some t
+    → (caps ≡ Some t.0) × (capacity ≡ Some t.1) × (steps ≡ Some t.2)
+head_parts None capacity steps t e = absurd cc
+head_parts (Some c) None steps t e = absurd cc
+head_parts (Some c) (Some n) None t e = absurd cc
+head_parts (Some c) (Some n) (Some ds) t e =
+    let same = Some_inj {A = Caps × ℕ × Items} (c, n, ds) t e in (
+      ap (λ (x : Caps × ℕ × Items). Some x.0) same,
+      ap (λ (x : Caps × ℕ × Items). Some x.1) same,
+      ap (λ (x : Caps × ℕ × Items). Some x.2) same,
+    )
 
 pub parts_of : (d : Data) (caps : Caps) (capacity : ℕ) (items : Items) → head_of d ≡ Some (caps, capacity, items)
     → Parts d caps capacity items
 parts_of d caps capacity items e =
-    let one = second (λ found. option_and_then (λ n. option_and_then (λ ds. Some (found, n, ds))
-    (option_and_then as_array (get (codes "steps") d))) (whole_of (2 ^ 64) (codes "capacity") d))
-    (option_and_then caps_of (get (codes "caps") d)) (caps, capacity, items) e in
-    let two = second (λ n. option_and_then (λ ds. Some (one.0, n, ds))
-    (option_and_then as_array (get (codes "steps") d))) (whole_of (2 ^ 64) (codes "capacity") d) (caps, capacity, items)
-    one.2 in
-    let three = second (λ ds. Some (one.0, two.0, ds)) (option_and_then as_array (get (codes "steps") d))
-    (caps, capacity, items) two.2 in
-    let there = second caps_of (get (codes "caps") d) one.0 one.1 in
-    let steps = second as_array (get (codes "steps") d) three.0 three.1 in
-    let same : three.0 ≡ items = third Caps ℕ Items _ _ _ _ _ _ three.2 in
+    let said = head_parts (option_and_then caps_of (get (codes "caps") d)) (whole_of (2 ^ 64) (codes "capacity") d)
+    (option_and_then as_array (get (codes "steps") d)) (caps, capacity, items) e in
+    let there = second caps_of (get (codes "caps") d) caps said.0 in
+    let steps = second as_array (get (codes "steps") d) items said.2 in
     record {
       caps_at = there.0;
       caps_there = there.1;
       steps_at = steps.0;
       steps_there = steps.1;
-      listed = subst (λ ds. as_array steps.0 ≡ Some ds) same steps.2;
+      listed = steps.2;
     }
 
 array_items : (n : ℕ) (d : Data) (ds : Items) → as_array d ≡ Some ds → depth d ≤ suc n → items_depth ds ≤ n

@@ -1,8 +1,8 @@
 -- Texts of tokens with gaps between them.
-use Rattle.std.proofs.Common.{◌≡◌, ℕ, Bool, true, false, List, [], ◌∷◌, ◌++◌, fold, map, refl, sym, ap, ap₂, ◌∙◌, subst}
+use Rattle.std.proofs.Common.{◌≡◌, ℕ, Bool, true, false, List, [], ◌∷◌, ◌++◌, fold, map, refl, ap, ap₂, ◌∙◌, subst}
 use Rattle.std.proofs.Common.{append_assoc, append-nil}
 use Rattle.std.proofs.lemmas.List.{map-append}
-use Rattle.json.specs.Token.{Token, begin_object, end_object, begin_array, end_array, key, string, number, boolean, null}
+use Rattle.json.specs.Token.{Token, begin_object, end_object, begin_array, end_array, string, number, boolean, null}
 use Rattle.json.specs.{Print.{token_text, ends, separator, print_from, print}, Spaced.{IsGap, AreGaps, print_spaced}}
 use Rattle.json.specs.Json as json
 use Rattle.json.specs.Tree.{json_tokens, items_tokens, members_tokens}

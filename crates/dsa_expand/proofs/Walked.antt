@@ -1,10 +1,10 @@
 -- One step more of a walk.
-use Rattle.std.proofs.Common.{◌≡◌, ◌<◌, ◌≤◌, ◌+◌, ℕ, true, List, [], ◌∷◌, ◌++◌, Option, Some, None, Result, map, take, length}
-use Rattle.std.proofs.Common.{filter_map, option_map, length-append, refl, sym, ap, ◌∙◌, subst, get_or}
+use Rattle.std.proofs.Common.{◌≡◌, ◌<◌, ◌≤◌, ◌+◌, ℕ, true, List, [], ◌∷◌, ◌++◌, Some, None, Result, map, take, length}
+use Rattle.std.proofs.Common.{filter_map, length-append, refl, sym, ap, ◌∙◌, subst, get_or}
 use Rattle.std.specs.Prelude.{slice_get}
 use Rattle.std.proofs.lemmas.{List.{map-append, take_all, length-map}, Option.{slice_get-map, slice_get_read}}
 use Rattle.serde_json.specs.{Data.{Data}, View.{view}, declared.value.Value.{Value}}
-use Rattle.dsa_regs.specs.declared.{Caps.{Caps}, Fault.{Fault}}
+use Rattle.dsa_regs.specs.declared.{Caps.{Caps}}
 use Rattle.dsa_book.specs.declared.{answer.Ticket.{Ticket}, event.Event.{Event}}
 use Rattle.dsa_book.specs.Machine.{is_run}
 use Rattle.dsa_device.specs.Running.{Running}

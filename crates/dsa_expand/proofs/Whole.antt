@@ -1,6 +1,6 @@
 -- The strict form of a whole document, and its faults.
 use Rattle.std.proofs.Common.{◌≡◌, ◌≤◌, ◌<◌, ◌+◌, ◌^◌, ℕ, Bool, true, false, List, [], ◌∷◌, ◌++◌, Option, Some, codes, refl, sym}
-use Rattle.std.proofs.Common.{ap, ◌∙◌, subst, arith, map, take, length, get_or}
+use Rattle.std.proofs.Common.{ap, subst, arith, map, take, length, get_or}
 use Rattle.std.proofs.Common.{◌≢◌, ◌⊎◌, None, inl, inr}
 use Rattle.std.proofs.lemmas.{List.{map-append, take_all, length-map}, Option.{slice_get-map, slice_get_read}}
 use Rattle.std.proofs.lemmas.Str.{IsUtf8-string_bytes}
@@ -18,9 +18,10 @@ use Rattle.dsa_expand.specs.{Steps.{Pair, is_friendly, strict_step}, Values.{pai
 use Rattle.dsa_expand.specs.Expansion.{AreExpanded, IsLaidOut, IsStrictForm, strict_document, head_pairs, is_part, pair_at}
 use Rattle.dsa_expand.specs.Expansion.{read_of, AreLikely, IsExpansion, IsFaultOfSteps, HasStepFault, IsStuckAt, IsUnlikelyAt}
 use Rattle.dsa_expand.specs.Walk.{IsToldOfDevice}
-use Rattle.dsa_expand.proofs.Lists.{listed, taken_more}
-use Rattle.dsa_expand.proofs.{Jsons.{AreShallow, AreAllShallow}, ReadBack.{reads_as}}
-use Rattle.dsa_expand.proofs.Shallow.{Parts, parts_of, items_at_most, items_flat, head_shallow, steps_shallow}
+use Rattle.dsa_expand.proofs.{Lists.{listed, taken_more}, Faultless.{document_of}}
+use Rattle.dsa_expand.specs.Members.{AreFlat, AreShallow}
+use Rattle.dsa_expand.proofs.{Jsons.{AreAllShallow}, ReadBack.{reads_as}}
+use Rattle.dsa_expand.proofs.Shallow.{parts_of, items_at_most, items_flat, head_shallow, steps_shallow}
 
 reads_by : (head : List Pair) (p : Pair) (ps : List Pair) (pss : List (List Pair)) (text : List ℕ) → head ≡ p ∷ ps
     → AreShallow 126 head → AreAllShallow 124 pss → IsDocumentText head pss text
@@ -55,20 +56,25 @@ pub strict_form : (bytes : List ℕ) (document : Data) (caps : Caps) (capacity :
     → IsOpenable caps capacity
     → IsLaidOut (list_any is_friendly (list_of_items items)) bytes document strict (string_bytes text)
     → IsStrictForm bytes (string_bytes text)
-strict_form bytes document caps capacity items strict text json head steps opening laid = record {
-  document = document;
-  caps = caps;
-  capacity = capacity;
-  reads = laid_out_reads (list_any is_friendly (list_of_items items)) bytes document caps capacity items strict text json
-      head steps laid;
-  items = items;
-  strict = strict;
-  json = json;
-  head = head;
-  steps = steps;
-  opening = opening;
-  laid_out = laid;
-}
+strict_form bytes document caps capacity items strict text json head steps opening laid =
+    let friendly = list_any is_friendly (list_of_items items) in
+    let reads = laid_out_reads friendly bytes document caps capacity items strict text json head steps laid in
+    let found = document_of friendly (string_bytes text) document caps capacity items strict reads head steps refl in
+    record {
+      document = document;
+      caps = caps;
+      capacity = capacity;
+      items = items;
+      strict = strict;
+      json = json;
+      head = head;
+      steps = steps;
+      opening = opening;
+      laid_out = laid;
+      reads = reads;
+      actions = found.0;
+      faultless = found.1;
+    }
 
 -- ---- what is told
 
@@ -99,6 +105,12 @@ all_likely vs i past h =
 
 module _ (bytes : List ℕ) (document : Data) (caps : Caps) (capacity : ℕ) (vs : List Value) (json : IsJson bytes document)
     (head : head_of document ≡ Some (caps, capacity, items_view vs)) where
+  pub steps_flat : AreFlat 127 (map view vs)
+  steps_flat =
+      let parts = parts_of document caps capacity (items_view vs) head in
+      let low = items_at_most document caps capacity (items_view vs) parts (depth-read bytes document json.value) in
+      subst (AreFlat 127) (listed (map view vs)) (items_flat 127 (items_view vs) (omega (arith, low)))
+
   faulty : (fault : ScenarioFault) → IsFaultOfSteps caps capacity (map view vs) fault → HasStepFault bytes fault
   faulty fault bad = record {
     document = document;

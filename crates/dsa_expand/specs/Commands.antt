@@ -1,8 +1,8 @@
 -- Command words, by the names of commands.
-use Rattle.std.specs.Prelude.{ℕ, ◌+◌, ◌*◌, ◌/◌, ◌^◌, List, [], ◌∷◌, Option, Some, None, option_and_then, option_map, codes}
+use Rattle.std.specs.Prelude.{ℕ, ◌+◌, ◌*◌, ◌/◌, ◌^◌, List, [], ◌∷◌, Option, Some, None, option_map, codes}
 use Rattle.std.specs.Prelude.{bytes_eq, find}
-use Rattle.serde_json.specs.{Data.{Data, Items}, Find.{get, as_str, as_array}}
-use Rattle.dsa_regs.specs.declared.{Command.{Command}, Scope.{Scope, TheVariants.{Device, Queue, Queues, Pasid}}}
+use Rattle.serde_json.specs.{Data.{Data}, Find.{get, as_str, as_array}}
+use Rattle.dsa_regs.specs.declared.{Command.{Command}, Scope.{Scope, TheVariants.{Device, Queue, Queues}}}
 use Rattle.dsa_regs.specs.Command.{command_label, commands_with, scope_of, word_of}
 use Rattle.dsa_scenario.specs.{Fields.{◌>>=◌}, Document.{list_of_items}}
 use Rattle.dsa_expand.specs.Values.{number_below, set_of}

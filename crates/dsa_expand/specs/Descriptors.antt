@@ -1,6 +1,6 @@
 -- Descriptors as objects.
-use Rattle.std.specs.Prelude.{ℕ, ◌^◌, Bool, true, false, if◌then◌else◌, List, [], ◌∷◌, Option, Some, None, codes}
-use Rattle.std.specs.Prelude.{option_and_then, bytes_eq, find, map}
+use Rattle.std.specs.Prelude.{ℕ, ◌^◌, Bool, false, if◌then◌else◌, List, [], ◌∷◌, Option, Some, None, codes}
+use Rattle.std.specs.Prelude.{option_and_then, bytes_eq, find}
 use Rattle.std.specs.{List.{list_all, list_any}, Int.Bits.{bit_or}}
 use Rattle.serde_json.specs.{Data.{Data}, Find.{get, as_str, as_bool}}
 use Rattle.hex.specs.Hex.{encode_lower}

@@ -8,8 +8,8 @@ use Rattle.dsa_book.specs.Machine.{is_run}
 use Rattle.dsa_scenario.specs.declared.{actions.Action.{Action}, run.Record.{Record}}
 use Rattle.dsa_scenario.specs.{Actions.{action_of}, Run.{AreOf, steps_of_records}}
 use Rattle.dsa_scenario.specs.declared.faults.ScenarioFault.{ScenarioFault}
-use Rattle.dsa_scenario.specs.declared.faults.ScenarioFault.TheVariants.{BadStep, BadCaps, BadCapacity, TooLong}
-use Rattle.dsa_scenario.specs.Document.{head_of, list_of_items, IsJson, IsOpenable, IsOpeningFault}
+use Rattle.dsa_scenario.specs.declared.faults.ScenarioFault.TheVariants.{BadStep, TooLong}
+use Rattle.dsa_scenario.specs.Document.{head_of, list_of_items, IsDocument, IsJson, IsOpenable, IsOpeningFault}
 use Rattle.dsa_expand.specs.Values.{pairs_of}
 use Rattle.dsa_expand.specs.Steps.{Pair, Given, put_all, object_with, with_given, given_onto, strict_step, is_friendly}
 use Rattle.dsa_expand.specs.Layout.{IsDocumentText}
@@ -85,7 +85,7 @@ read_of false document strict = document
 read_of true document strict = strict_document (head_pairs document) strict
 
 -- the text is the strict form of the document in these bytes: each of its steps is the strict one that the step there
--- means, and so it is read
+-- means, so it is read, and it is a document without a fault
 pub record IsStrictForm (bytes text : List ℕ) : Type 0 where
   pub document : Data
   pub caps : Caps
@@ -98,6 +98,8 @@ pub record IsStrictForm (bytes text : List ℕ) : Type 0 where
   pub opening : IsOpenable caps capacity
   pub laid_out : IsLaidOut (list_any is_friendly (list_of_items items)) bytes document strict text
   pub reads : IsJson text (read_of (list_any is_friendly (list_of_items items)) document strict)
+  pub actions : List Action
+  pub faultless : IsDocument text caps capacity actions
 
 -- a document of this head and these steps has this fault: that of a step comes before that of the device
 abbrev pub IsFaultOfSteps : Caps → ℕ → List Data → ScenarioFault → Type 0

@@ -5,5 +5,7 @@ pub mod Steps
 pub mod Members
 pub mod Layout
 pub mod Expansion
+pub mod Friendly
 pub mod Walk
+pub mod Single
 pub mod Worked

@@ -1,7 +1,7 @@
 -- Steps in the strict form: the members of each, in the order in which they are written.
 use Rattle.dsa_scenario.specs.declared.actions.StepKind.TheVariants as kind
-use Rattle.std.specs.Prelude.{ℕ, Bool, true, false, not, ◌&&◌, ◌||◌, if◌then◌else◌, List, [], ◌∷◌, ◌++◌, Option, Some, None}
-use Rattle.std.specs.Prelude.{option_and_then, option_map, is_some, codes, bytes_eq, filter, map}
+use Rattle.std.specs.Prelude.{ℕ, Bool, false, not, ◌&&◌, ◌||◌, if◌then◌else◌, List, [], ◌∷◌, ◌++◌, Option, Some, None}
+use Rattle.std.specs.Prelude.{option_and_then, option_map, is_some, codes, bytes_eq, filter}
 use Rattle.std.specs.List.{list_any}
 use Rattle.serde_json.specs.Data.{Data, number, string, array, object, unsigned, Members, no_members, put}
 use Rattle.serde_json.specs.Find.{get, as_str, as_array, as_object}

@@ -1,10 +1,10 @@
 -- Values and steps that the worked rows speak of.
-use Rattle.std.specs.Prelude.{ℕ, true, List, [], ◌∷◌, ◌++◌, map, replicate, codes, Option, option_map, ⊤}
+use Rattle.std.specs.Prelude.{ℕ, true, List, [], ◌∷◌, map, replicate, codes, Option, option_map, ⊤}
 use Rattle.hex.specs.Hex.{decode_pairs, encode_with}
-use Rattle.serde_json.specs.Data.{Data, boolean, number, string, array, object, unsigned, Members, no_members, member}
+use Rattle.serde_json.specs.Data.{Data, boolean, string, array, object, Members, no_members, member}
 use Rattle.serde_json.specs.View.{items_of}
 use Rattle.dsa_scenario.specs.Worked.{digits_on_literals, whole}
-use Rattle.dsa_expand.specs.{Values.{number_below}, Commands.{word_said}, Steps.{Pair}}
+use Rattle.dsa_expand.specs.{Commands.{word_said}, Steps.{Pair}}
 use Rattle.dsa_expand.specs.Descriptors.{descriptor_said, digits_of_descriptor}
 
 -- what the rows unfold to compute texts

@@ -6,7 +6,7 @@ ghost use Rattle.std.specs.List.{list_any};
 ghost use Rattle.serde_json.specs.{Find.{get}, View.{items_view, view}};
 ghost use Rattle.dsa_scenario.specs.Document.{IsJson, head_of};
 ghost use Rattle.dsa_scenario.specs.declared.faults.ScenarioFault.{ScenarioFault};
-ghost use Rattle.dsa_expand.specs.Members.{pair_of, pairs_of_step};
+ghost use Rattle.dsa_expand.specs.Members.{AreFlat, pair_of, pairs_of_step};
 ghost use Rattle.dsa_expand.specs.Steps.{is_friendly};
 ghost use Rattle.dsa_expand.specs.Values.{pairs_of};
 ghost use Rattle.dsa_expand.specs.Expansion.{AreLikely, IsExpansion, IsLaidOut, IsUnlikelyAt};
@@ -14,7 +14,8 @@ ghost use Rattle.dsa_expand.specs.Walk.{IsToldOfDevice};
 ghost use Rattle.dsa_expand.specs.Expansion.{head_pairs, is_part, pair_at};
 
 use crate::layout::document_text;
-use crate::steps::{Member, StrictStep, is_friendly, strict_step};
+use crate::members::{Content, Member, StrictStep};
+use crate::steps::{is_friendly, strict_step};
 use crate::walk::{open_walk, walk_steps};
 use dsa_scenario::{Head, Render, Rendered, Rendering, ScenarioFault, parse_head, parse_json};
 use serde_json::Value;
@@ -34,11 +35,10 @@ fn is_part(key: &str) -> bool
 }
 
 // Adds the member at the key, if the document has one.
-fn add_part(
-    alloc: Global,
-    document: &Value,
-    key: &str,
-    members: &mut Vec<Member>,
+fn add_part<'v>(
+    document: &'v Value,
+    key: &'v str,
+    members: &mut Vec<Member<'v>>,
 ) -> Result<(), AllocError>
     ensures { OnOk result
         (map pair_of members.new.items
@@ -47,15 +47,15 @@ fn add_part(
 {
     if let Some(value) = document.get(key) {
         members.push(Member {
-            key: String::from_str(alloc, key)?,
-            value: value.clone()?,
+            key,
+            content: Content::Read(value),
         })?;
     }
     Ok(())
 }
 
 // Adds the members that are no parts of a document.
-fn add_remarks(document: &Value, members: &mut Vec<Member>) -> Result<(), AllocError>
+fn add_remarks<'v>(document: &'v Value, members: &mut Vec<Member<'v>>) -> Result<(), AllocError>
     ensures { OnOk result
         (map pair_of members.new.items
         ≡ map pair_of members.old.items
@@ -67,8 +67,8 @@ fn add_remarks(document: &Value, members: &mut Vec<Member>) -> Result<(), AllocE
     for (key, value) in all.iter() {
         if !is_part(key.as_str()) {
             members.push(Member {
-                key: key.clone()?,
-                value: value.clone()?,
+                key: key.as_str(),
+                content: Content::Read(value),
             })?;
         }
     }
@@ -76,19 +76,20 @@ fn add_remarks(document: &Value, members: &mut Vec<Member>) -> Result<(), AllocE
 }
 
 // The members of a document beside its steps.
-fn head_members(alloc: Global, document: &Value) -> Result<Vec<Member>, AllocError>
+fn head_members(alloc: Global, document: &Value) -> Result<Vec<Member<'_>>, AllocError>
     ensures { IfOk result
         (λ members. map pair_of members.items ≡ head_pairs (view document.now)) }
 {
     let mut members = Vec::new(alloc);
-    add_part(alloc, document, "caps", &mut members)?;
-    add_part(alloc, document, "capacity", &mut members)?;
+    add_part(document, "caps", &mut members)?;
+    add_part(document, "capacity", &mut members)?;
     add_remarks(document, &mut members)?;
     Ok(members)
 }
 
 // The number of the first step that has no strict form, whatever the names are.
 fn first_unlikely(alloc: Global, steps: &[Value]) -> Result<Option<usize>, AllocError>
+    requires { AreFlat 127 (map view steps.now) }
     ensures { IfOk result
         (λ found. MatchOption found
         (AreLikely (map view steps.now))
@@ -125,7 +126,7 @@ fn text_for(
     bytes: &[u8],
     document: &Value,
     steps: &[Value],
-    strict: &[StrictStep],
+    strict: &[StrictStep<'_>],
 ) -> Result<String, AllocError>
     requires { IsUtf8 bytes.now }
     ensures { IfOk result
@@ -153,6 +154,7 @@ fn fault_alone(alloc: Global, fault: ScenarioFault) -> Rendering
 
 // What is told where no device can be made.
 fn told_of_device(alloc: Global, steps: &[Value], fault: ScenarioFault) -> Rendered
+    requires { AreFlat 127 (map view steps.now) }
     ensures ok { IfOk result
         (λ r. (fault ≢ ScenarioFault.OutOfMemory) × (string_bytes r.text ≡ [])
         × IsToldOfDevice (map view steps.now) fault r.fault) }

@@ -7,7 +7,7 @@ ghost use Rattle.dsa_expand.specs.Layout.{AreMembersTexts, AreObjectsTexts, IsDo
 ghost use Rattle.dsa_expand.specs.Layout.{IsObjectText, IsValueText, key_with_colon};
 ghost use Rattle.dsa_expand.specs.Members.{pair_of, pairs_of_step};
 
-use crate::steps::{Member, StrictStep};
+use crate::members::{Member, StrictStep};
 use serde_json::Value;
 use std::alloc::{AllocError, Global};
 
@@ -28,7 +28,7 @@ fn add_member(
     alloc: Global,
     text: &mut String,
     before: &str,
-    member: &Member,
+    member: &Member<'_>,
 ) -> Result<(), AllocError>
     ensures { OnOk result
         ((value : List ℕ) × IsValueText (pair_of member.now).1 value
@@ -37,9 +37,9 @@ fn add_member(
         ++ (before.now ++ (key_with_colon (pair_of member.now).0 ++ value)))) }
 {
     text.push_str(before)?;
-    text.push_str(quoted(alloc, member.key.as_str())?.as_str())?;
+    text.push_str(quoted(alloc, member.key)?.as_str())?;
     text.push_str(": ")?;
-    text.push_str(text_of(alloc, &member.value)?.as_str())
+    text.push_str(text_of(alloc, member.content.value())?.as_str())
 }
 
 // Adds members in their order.
@@ -48,7 +48,7 @@ fn add_members(
     text: &mut String,
     first: &str,
     next: &str,
-    members: &[Member],
+    members: &[Member<'_>],
 ) -> Result<(), AllocError>
     ensures { OnOk result
         ((added : List ℕ) × AreMembersTexts first.now next.now (map pair_of members.now) added
@@ -67,7 +67,7 @@ fn add_object(
     alloc: Global,
     text: &mut String,
     before: &str,
-    members: &[Member],
+    members: &[Member<'_>],
 ) -> Result<(), AllocError>
     ensures { OnOk result
         ((object : List ℕ) × IsObjectText (map pair_of members.now) object
@@ -79,13 +79,23 @@ fn add_object(
     text.push_str("}")
 }
 
+/// The text of an object with these members, on one line.
+pub fn object_text(alloc: Global, members: &[Member<'_>]) -> Result<String, AllocError>
+    ensures { IfOk result
+        (λ text. IsObjectText (map pair_of members.now) (string_bytes text)) }
+{
+    let mut text = String::new(alloc);
+    add_object(alloc, &mut text, "", members)?;
+    Ok(text)
+}
+
 // Adds the steps in their order.
 fn add_steps(
     alloc: Global,
     text: &mut String,
     first: &str,
     next: &str,
-    steps: &[StrictStep],
+    steps: &[StrictStep<'_>],
 ) -> Result<(), AllocError>
     ensures { OnOk result
         ((added : List ℕ)
@@ -103,8 +113,8 @@ fn add_steps(
 /// The text of a document with these members and these steps.
 pub fn document_text(
     alloc: Global,
-    head: &[Member],
-    steps: &[StrictStep],
+    head: &[Member<'_>],
+    steps: &[StrictStep<'_>],
 ) -> Result<String, AllocError>
     ensures { IfOk result
         (λ text. IsDocumentText (map pair_of head.now) (map pairs_of_step steps.now)

@@ -6,10 +6,17 @@
 mod commands;
 mod descriptors;
 mod expansion;
+mod friendly;
 mod layout;
+mod members;
 pub mod rows;
+mod single;
 mod steps;
 mod values;
 mod walk;
 
 pub use expansion::Expansion;
+pub use friendly::Friendly;
+pub use single::{Meaning, meaning_of};
+pub use steps::GivenName;
+pub use walk::note_name;

@@ -10,7 +10,8 @@ ghost use Rattle.dsa_expand.specs.Values.{number_below, or_default, place_in_set
 ghost use Rattle.dsa_expand.specs.Commands.{group_of, only_number, operand_said, word_said};
 ghost use Rattle.dsa_expand.specs.Descriptors.{flags_with};
 ghost use Rattle.dsa_expand.specs.Steps.{given_onto, is_friendly, is_said_by, known_name};
-ghost use Rattle.dsa_expand.specs.Steps.{strict_set, strict_step, with_given};
+ghost use Rattle.dsa_expand.specs.Steps.{object_with, strict_set, strict_step, with_given};
+ghost use Rattle.dsa_expand.specs.Single.{Itself, Strictly, StuckAt, sense_of};
 ghost use Rattle.dsa_expand.specs.Expansion.{head_pairs, read_of, strict_document};
 ghost use Rattle.dsa_expand.specs.Worked.{an_object, command_names, digits_said, finish_named};
 ghost use Rattle.dsa_expand.specs.Worked.{list_with, movdir_with, operand_at, queues_at};
@@ -175,6 +176,27 @@ pub fn of_names()
         (accepted (record_ticket 6 0) ∷ accepted (record_ticket 7 1) ∷ accepted (record_ticket 8 2)
         ∷ [])
         ≡ (codes "a", 0) ∷ (codes "b", 2) ∷ [] }
+{}
+
+/// What a value means that is to be a step, outside a document.
+#[tactic(auto, unfolding(crate::specs::Worked::expanded_on_literals))]
+pub fn of_meanings()
+    ensures named { sense_of (Some ((codes "x17", 5) ∷ [])) (finish_named (text (codes "x17")))
+        ≡ Strictly (object_with (strict_finish 5)) }
+    ensures unnamed { sense_of (Some ((codes "x17", 5) ∷ [])) (finish_named (text (codes "x18")))
+        ≡ StuckAt (codes "name") }
+    ensures no_step { sense_of (Some [])
+        (an_object ((codes "do", text (codes "start")) ∷ (codes "engine", null) ∷ []))
+        ≡ Strictly (an_object ((codes "do", text (codes "start")) ∷ (codes "engine", null) ∷ [])) }
+    ensures missing { sense_of (Some []) (an_object ((codes "do", text (codes "start")) ∷ []))
+        ≡ StuckAt (codes "engine") }
+    ensures command { sense_of (Some [])
+        (an_object ((codes "command", text (codes "fly")) ∷ (codes "do", text (codes "command"))
+        ∷ []))
+        ≡ StuckAt (codes "word") }
+    ensures other { map (sense_of (Some []))
+        (null ∷ an_object ((codes "do", text (codes "show")) ∷ []) ∷ [])
+        ≡ Itself ∷ Itself ∷ [] }
 {}
 
 /// Documents.

@@ -1,36 +1,25 @@
 //! Steps in the strict form.
 
-ghost use Rattle.std.specs.Prelude.{◌≡◌, ◌++◌, ◌∷◌, [], map, option_map, filter, not, codes, IfOk, IfSome, OnOk, Some};
+ghost use Rattle.std.specs.Prelude.{◌≡◌, ◌≤◌, ◌++◌, ◌∷◌, [], map, option_map, filter, not, codes, IfOk, IfSome, OnOk, Some};
 ghost use Rattle.std.specs.{Prelude.{bytes_eq}, List.{list_any}};
-ghost use Rattle.serde_json.specs.{Data.{string}, Find.{get}, View.{view}};
+ghost use Rattle.serde_json.specs.{Data.{depth, string}, Find.{get}, View.{view}};
 ghost use Rattle.dsa_scenario.specs.{Actions.{action_of, kind_text, rows_of_kind}, Fields.{row_of_field}};
 ghost use Rattle.dsa_expand.specs.Steps.{fields_onto, is_said_by, is_in_strict, known_name, given_name};
 ghost use Rattle.dsa_expand.specs.Steps.{object_with, other_members, says_command, strict_at};
 ghost use Rattle.dsa_expand.specs.Steps.{strict_descriptor, strict_name, strict_set};
-ghost use Rattle.dsa_expand.specs.Steps.{strict_step, strict_value, strict_word};
+ghost use Rattle.dsa_expand.specs.Steps.{strict_by, strict_step, strict_value, strict_word};
 ghost use Rattle.dsa_expand.specs.Steps.{is_friendly, is_friendly_at, is_friendly_value};
-ghost use Rattle.dsa_expand.specs.Members.{given_as, known_as, pair_of, pairs_of_step};
+ghost use Rattle.dsa_expand.specs.Members.{content_as, given_as, known_as, pair_of, pairs_of_step};
+ghost use Rattle.dsa_expand.specs.Members.{AreShallow};
 
 use crate::commands::word_said;
 use crate::descriptors::{descriptor_said, digits_of};
+use crate::layout::object_text;
+use crate::members::{Content, Member, StrictStep};
 use crate::values::set_of;
-use dsa_scenario::{Action, Field, StepKind, kind_of, parse_action};
-use serde_json::{Map, Value, put};
+use dsa_scenario::{Field, StepKind, kind_of, parse_action, parse_json};
+use serde_json::Value;
 use std::alloc::{AllocError, Global};
-
-/// A member of an object: a key, and what stands there.
-#[derive(Drop)]
-pub struct Member {
-    pub key: String,
-    pub value: Value,
-}
-
-/// A strict step: its members, in the order in which they are written, and what it asks.
-#[derive(Drop)]
-pub struct StrictStep {
-    pub members: Vec<Member>,
-    pub action: Action,
-}
 
 /// A text that a step has at `as`, and the name that it gave.
 #[derive(Drop)]
@@ -42,15 +31,17 @@ pub struct GivenName {
 /// What is known of names: those that were given so far, or where no device can be made nothing.
 pub type Known<'n> = Option<&'n [GivenName]>;
 
-/// The object with these members.
-pub fn object_with(alloc: Global, members: &[Member]) -> Result<Value, AllocError>
+/// The object with these members, which is read of its text: that is JSON, so only memory may be
+/// wanting.
+pub fn object_with(alloc: Global, members: &[Member<'_>]) -> Result<Value, AllocError>
+    requires { AreShallow 126 (map pair_of members.now) }
     ensures { IfOk result (λ value. view value ≡ object_with (map pair_of members.now)) }
 {
-    let mut map = Map::new(alloc);
-    for member in members {
-        put(&mut map, alloc, member.key.as_str(), member.value.clone()?)?;
+    let text = object_text(alloc, members)?;
+    match parse_json(alloc, text.as_bytes()) {
+        Ok(value) => Ok(value),
+        Err(_) => Err(AllocError),
     }
-    Ok(Value::Object(map))
 }
 
 // The name that was given last under this text.
@@ -76,94 +67,89 @@ fn known_name(known: Known<'_>, text: &str) -> Option<u32>
     }
 }
 
-fn strict_descriptor(alloc: Global, value: &Value) -> Result<Option<Value>, AllocError>
-    ensures { IfOk result (λ strict. option_map view strict ≡ strict_descriptor (view value.now)) }
+fn strict_descriptor(alloc: Global, value: &Value) -> Result<Option<Content<'_>>, AllocError>
+    ensures { IfOk result
+        (λ strict. option_map content_as strict ≡ strict_descriptor (view value.now)) }
 {
     if !value.is_object() {
-        return Ok(Some(value.clone()?));
+        return Ok(Some(Content::Read(value)));
     }
     match descriptor_said(value) {
-        Some(descriptor) => Ok(Some(Value::String(digits_of(alloc, descriptor)?))),
+        Some(descriptor) => {
+            let digits = digits_of(alloc, descriptor)?;
+            Ok(Some(Content::Made(Value::String(digits))))
+        }
         None => Ok(None),
     }
 }
 
 #[tactic(auto, using(crate::proofs::Lists::listed))]
-fn strict_set(value: &Value) -> Result<Option<Value>, AllocError>
-    ensures { IfOk result (λ strict. option_map view strict ≡ strict_set (view value.now)) }
+fn strict_set(value: &Value) -> Option<Content<'_>>
+    ensures { option_map content_as result ≡ strict_set (view value.now) }
 {
     let Some(numbers) = value.as_array() else {
-        return Ok(Some(value.clone()?));
+        return Some(Content::Read(value));
     };
-    match set_of(0, 64, numbers.as_slice()) {
-        Some(set) => Ok(Some(Value::from(set))),
-        None => Ok(None),
-    }
+    let set = set_of(0, 64, numbers.as_slice())?;
+    Some(Content::Made(Value::from(set)))
 }
 
-fn strict_name(known: Known<'_>, value: &Value) -> Result<Option<Value>, AllocError>
-    ensures { IfOk result
-        (λ strict. option_map view strict
-        ≡ strict_name (known_as (option_map (λ g. g.now) known.entry)) (view value.now)) }
+fn strict_name<'v>(known: Known<'_>, value: &'v Value) -> Option<Content<'v>>
+    ensures { option_map content_as result
+        ≡ strict_name (known_as (option_map (λ g. g.now) known.entry)) (view value.now) }
 {
     let Some(text) = value.as_str() else {
-        return Ok(Some(value.clone()?));
+        return Some(Content::Read(value));
     };
-    match known_name(known, text) {
-        Some(name) => Ok(Some(Value::from(name))),
-        None => Ok(None),
-    }
+    let name = known_name(known, text)?;
+    Some(Content::Made(Value::from(name)))
 }
 
 // What stands at this key, in the strict form.
-fn strict_value(
+fn strict_value<'v>(
     alloc: Global,
     known: Known<'_>,
     key: &str,
-    value: &Value,
-) -> Result<Option<Value>, AllocError>
+    value: &'v Value,
+) -> Result<Option<Content<'v>>, AllocError>
     ensures { IfOk result
-        (λ strict. option_map view strict
+        (λ strict. option_map content_as strict
         ≡ strict_value (known_as (option_map (λ g. g.now) known.entry)) key.now (view value.now)) }
 {
     match key {
         "desc" => strict_descriptor(alloc, value),
-        "queues" | "engines" => strict_set(value),
-        "name" => strict_name(known, value),
-        _ => Ok(Some(value.clone()?)),
+        "queues" | "engines" => Ok(strict_set(value)),
+        "name" => Ok(strict_name(known, value)),
+        _ => Ok(Some(Content::Read(value))),
     }
 }
 
 // The command word of the step.
-fn strict_word(step: &Value) -> Result<Option<Value>, AllocError>
-    ensures { IfOk result
-        (λ strict. option_map view strict
+fn strict_word(step: &Value) -> Option<Content<'_>>
+    ensures { option_map content_as result
         ≡ strict_word (view step.now) (get (codes "word") (view step.now))
-        (get (codes "command") (view step.now))) }
+        (get (codes "command") (view step.now)) }
 {
     match (step.get("word"), step.get("command")) {
-        (Some(word), None) => Ok(Some(word.clone()?)),
-        (None, Some(called)) => match word_said(step, called) {
-            Some(word) => Ok(Some(Value::from(word))),
-            None => Ok(None),
-        },
-        _ => Ok(None),
+        (Some(word), None) => Some(Content::Read(word)),
+        (None, Some(called)) => Some(Content::Made(Value::from(word_said(step, called)?))),
+        _ => None,
     }
 }
 
-// What stands at the key of the strict step.
-fn strict_at(
+/// What stands at the key of the strict step.
+pub fn strict_at<'v>(
     alloc: Global,
-    step: &Value,
+    step: &'v Value,
     known: Known<'_>,
     key: &str,
-) -> Result<Option<Value>, AllocError>
+) -> Result<Option<Content<'v>>, AllocError>
     ensures { IfOk result
-        (λ strict. option_map view strict
+        (λ strict. option_map content_as strict
         ≡ strict_at (known_as (option_map (λ g. g.now) known.entry)) (view step.now) key.now) }
 {
     if key == "word" {
-        return strict_word(step);
+        return Ok(strict_word(step));
     }
     match step.get(key) {
         Some(value) => strict_value(alloc, known, key, value),
@@ -172,22 +158,23 @@ fn strict_at(
 }
 
 // The first member of a step: its kind.
-fn kind_member(alloc: Global, kind: StepKind) -> Result<Member, AllocError>
+fn kind_member<'v>(alloc: Global, kind: StepKind) -> Result<Member<'v>, AllocError>
     ensures { IfOk result (λ member. pair_of member ≡ (codes "do", string (kind_text kind))) }
 {
+    let name = Value::try_from_str(alloc, kind.name())?;
     Ok(Member {
-        key: String::from_str(alloc, "do")?,
-        value: Value::try_from_str(alloc, kind.name())?,
+        key: "do",
+        content: Content::Made(name),
     })
 }
 
 // The kind of a step and what stands at the keys of the kind.
-fn strict_fields(
+fn strict_fields<'v>(
     alloc: Global,
     known: Known<'_>,
     kind: StepKind,
-    step: &Value,
-) -> Result<Option<Vec<Member>>, AllocError>
+    step: &'v Value,
+) -> Result<Option<Vec<Member<'v>>>, AllocError>
     ensures { IfOk result
         (λ strict. option_map (λ members. map pair_of members.items) strict
         ≡ fields_onto (known_as (option_map (λ g. g.now) known.entry)) (view step.now)
@@ -195,12 +182,12 @@ fn strict_fields(
 {
     let mut members = vec![in alloc; kind_member(alloc, kind)?]?;
     for field in kind.fields() {
-        let Some(value) = strict_at(alloc, step, known, field.name)? else {
+        let Some(content) = strict_at(alloc, step, known, field.name)? else {
             return Ok(None);
         };
         members.push(Member {
-            key: String::from_str(alloc, field.name)?,
-            value,
+            key: field.name,
+            content,
         })?;
     }
     Ok(Some(members))
@@ -237,7 +224,11 @@ fn is_in_strict(kind: StepKind, step: &Value, key: &str) -> bool
 }
 
 // Adds all other members of the step.
-fn add_others(kind: StepKind, step: &Value, members: &mut Vec<Member>) -> Result<(), AllocError>
+fn add_others<'v>(
+    kind: StepKind,
+    step: &'v Value,
+    members: &mut Vec<Member<'v>>,
+) -> Result<(), AllocError>
     ensures { OnOk result
         (map pair_of members.new.items
         ≡ map pair_of members.old.items ++ other_members kind (view step.now)) }
@@ -248,20 +239,39 @@ fn add_others(kind: StepKind, step: &Value, members: &mut Vec<Member>) -> Result
     for (key, value) in all.iter() {
         if !is_in_strict(kind, step, key.as_str()) {
             members.push(Member {
-                key: key.clone()?,
-                value: value.clone()?,
+                key: key.as_str(),
+                content: Content::Read(value),
             })?;
         }
     }
     Ok(())
 }
 
-/// The strict step that this one means.
-pub fn strict_step(
+/// The members of the strict step that this one of the kind means.
+pub fn strict_members<'v>(
     alloc: Global,
     known: Known<'_>,
-    step: &Value,
-) -> Result<Option<StrictStep>, AllocError>
+    kind: StepKind,
+    step: &'v Value,
+) -> Result<Option<Vec<Member<'v>>>, AllocError>
+    ensures { IfOk result
+        (λ strict. option_map (λ members. map pair_of members.items) strict
+        ≡ strict_by (known_as (option_map (λ g. g.now) known.entry)) kind (view step.now)) }
+{
+    let Some(mut members) = strict_fields(alloc, known, kind, step)? else {
+        return Ok(None);
+    };
+    add_others(kind, step, &mut members)?;
+    Ok(Some(members))
+}
+
+/// The strict step that this one means.
+pub fn strict_step<'v>(
+    alloc: Global,
+    known: Known<'_>,
+    step: &'v Value,
+) -> Result<Option<StrictStep<'v>>, AllocError>
+    requires { depth (view step.now) ≤ 127 }
     ensures strict { IfOk result
         (λ strict. option_map pairs_of_step strict
         ≡ strict_step (known_as (option_map (λ g. g.now) known.entry)) (view step.now)) }
@@ -272,10 +282,9 @@ pub fn strict_step(
     let Some(kind) = kind_of(step) else {
         return Ok(None);
     };
-    let Some(mut members) = strict_fields(alloc, known, kind, step)? else {
+    let Some(members) = strict_members(alloc, known, kind, step)? else {
         return Ok(None);
     };
-    add_others(kind, step, &mut members)?;
     match parse_action(&object_with(alloc, members.as_slice())?) {
         Some(action) => Ok(Some(StrictStep { members, action })),
         None => Ok(None),

@@ -8,12 +8,13 @@ ghost use Rattle.dsa_regs.specs.declared.Caps.{Caps};
 ghost use Rattle.dsa_scenario.specs.declared.faults.ScenarioFault.{ScenarioFault};
 ghost use Rattle.dsa_scenario.specs.{Actions.{action_of}, Document.{IsOpenable, IsOpeningFault}};
 ghost use Rattle.dsa_scenario.specs.{Fields.{text_of}, Run.{ticket_given_by}};
-ghost use Rattle.dsa_expand.specs.Members.{given_as, pairs_of_step};
+ghost use Rattle.dsa_expand.specs.Members.{AreFlat, given_as, pairs_of_step};
 ghost use Rattle.dsa_expand.specs.Steps.{Given, with_given, object_with, strict_step};
 ghost use Rattle.dsa_expand.specs.Expansion.{IsStuckAt};
 ghost use Rattle.dsa_expand.specs.Walk.{IsWalkedOver};
 
-use crate::steps::{GivenName, StrictStep, strict_step};
+use crate::members::StrictStep;
+use crate::steps::{GivenName, strict_step};
 use dsa_book::{FetchAnswer, Reply, SubmitAnswer};
 use dsa_cells::LinkedStore;
 use dsa_regs::Caps;
@@ -23,14 +24,14 @@ use std::alloc::{AllocError, Global};
 
 /// A run, the own names of its entries, and the strict forms of its steps.
 #[derive(Drop)]
-pub struct Walk {
+pub struct Walk<'v> {
     pub run: Run<LinkedStore>,
     pub given: Vec<GivenName>,
-    pub strict: Vec<StrictStep>,
+    pub strict: Vec<StrictStep<'v>>,
 }
 
 /// A walk of no step, on a new device.
-pub fn open_walk(alloc: Global, caps: Caps, capacity: u64) -> Result<Walk, ScenarioFault>
+pub fn open_walk<'v>(alloc: Global, caps: Caps, capacity: u64) -> Result<Walk<'v>, ScenarioFault>
     ensures opening { OnOk result (IsOpenable caps capacity) }
     ensures first { IfOk result
         (λ walk. IsWalkedOver caps capacity [] walk.run.device walk.run.tickets.items
@@ -72,8 +73,8 @@ fn own_name(step: &Value) -> Option<&str>
     step.get("as")?.as_str()
 }
 
-// Notes the name that a step was given under its own.
-fn note_name(
+/// Notes the name that a step was given under its own.
+pub fn note_name(
     alloc: Global,
     given: &mut Vec<GivenName>,
     step: &Value,
@@ -97,11 +98,11 @@ fn note_name(
 }
 
 // Makes a step, of which this is the strict form.
-fn make_step(
+fn make_step<'v>(
     alloc: Global,
-    walk: &mut Walk,
+    walk: &mut Walk<'v>,
     step: &Value,
-    strict: StrictStep,
+    strict: StrictStep<'v>,
 ) -> Result<(), AllocError>
     requires form { strict_step (Some (map given_as walk.old.given.items)) (view step.now)
         ≡ Some (pairs_of_step strict) }
@@ -124,11 +125,12 @@ fn make_step(
 
 /// Makes the steps one after the other, up to the first that has no strict form, of which it gives
 /// the number.
-pub fn walk_steps(
+pub fn walk_steps<'v>(
     alloc: Global,
-    walk: &mut Walk,
-    steps: &[Value],
+    walk: &mut Walk<'v>,
+    steps: &'v [Value],
 ) -> Result<Option<usize>, AllocError>
+    requires { AreFlat 127 (map view steps.now) }
     ensures { IfOk result
         (λ found. (caps : Caps) → (capacity : ℕ)
         → IsWalkedOver caps capacity [] walk.old.run.device walk.old.run.tickets.items

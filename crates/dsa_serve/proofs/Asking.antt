@@ -1,14 +1,14 @@
 -- What a line asks, by what is kept of it.
 use Rattle.std.proofs.Common.{◌⊎◌, inl, inr}
 use Rattle.std.proofs.Common.{◌≡◌, ◌≤◌, ◌<◌, ◌+◌, ◌^◌, ℕ, List, [], ◌∷◌, ◌++◌, length, take, ◌∙◌, arith}
-use Rattle.std.proofs.Common.{length-take, subst, codes, refl}
+use Rattle.std.proofs.Common.{length-take, subst}
 use Rattle.std.proofs.lemmas.List.{take_all}
 use Rattle.serde_json.specs.Data.{Data}
 use Rattle.dsa_scenario.specs.declared.faults.ScenarioFault.{ScenarioFault}
 use Rattle.dsa_scenario.specs.declared.faults.ScenarioFault.TheVariants as fault
 use Rattle.dsa_scenario.specs.Document.{IsJson, IsNoJson}
 use Rattle.dsa_serve.specs.Requests.{Request, Step, Explain, Show, Fates, Fault, Ready, Asks, AreAsked, IsAskedIn}
-use Rattle.dsa_serve.specs.Requests.{IsRead}
+use Rattle.dsa_serve.specs.Requests.{IsRead, TellsNoJson}
 
 -- a line that is short when cut is whole
 whole : (line kept : List ℕ) → kept ≡ take (2 ^ 20 + 1) line → length kept ≤ 2 ^ 20 → kept ≡ line
@@ -57,7 +57,7 @@ Asks-read line document (Ready count) short json asks =
     (short, record { document = document; json = json; asks = asks })
 
 -- a short line that is told to be no JSON asks nothing
-pub Asks-no_json : (line : List ℕ) (e : ScenarioFault) → length line ≤ 2 ^ 20 → e ≡ fault.NotJson
-    → (e ≡ fault.OutOfMemory) ⊎ ((e ≡ fault.NotJson) × IsNoJson line) → Asks line (Fault (codes "not JSON"))
-Asks-no_json line e short is (inl memory) = absurd cc
-Asks-no_json line e short is (inr none) = inr (inl (short, none.1, refl))
+pub Asks-no_json : (line why : List ℕ) (e : ScenarioFault) → length line ≤ 2 ^ 20 → e ≡ fault.NotJson
+    → (e ≡ fault.OutOfMemory) ⊎ ((e ≡ fault.NotJson) × IsNoJson line) → TellsNoJson line why → Asks line (Fault why)
+Asks-no_json line why e short is (inl memory) told = absurd cc
+Asks-no_json line why e short is (inr none) told = inr (inl (short, none.1, told))

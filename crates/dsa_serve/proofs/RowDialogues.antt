@@ -1,7 +1,7 @@
 -- Documents, lines and dialogues that several worked rows speak of, all of the smallest device.
 use Rattle.dsa_book.specs.declared.event.Event.TheVariants as event
-use Rattle.std.proofs.Common.{◌≡◌, ◌≢◌, ◌≤◌, ◌^◌, ◌∙◌, ℕ, true, false, List, [], ◌∷◌, length, map, codes, refl, ap, sym}
-use Rattle.std.proofs.Common.{arith, lit≤, inl, inr}
+use Rattle.std.proofs.Common.{◌≡◌, ◌≢◌, ◌≤◌, ◌^◌, ◌∙◌, ℕ, true, false, List, [], ◌∷◌, ◌++◌, length, map, codes, refl, ap}
+use Rattle.std.proofs.Common.{sym, arith, lit≤, inl, inr}
 use Rattle.std.specs.{Prelude.{Option, Some, None, IsUtf8}, Fmt.{digits}}
 use Rattle.std.proofs.lemmas.{Option.{same_Some}, List.Elements.{All-nil}}
 use Rattle.serde_json.{specs.{Data.{Data}, Read.{read}}, proofs.OnLiterals.{serde_json_on_literals}}
@@ -14,11 +14,12 @@ use Rattle.dsa_scenario.specs.{Run.{AreOf, steps_of_records}, Steps.{Visit, visi
 use Rattle.dsa_device.specs.Running.{Running, running_at_first}
 use Rattle.dsa_scenario.proofs.Heads.{Head, head_by, same_head}
 use Rattle.dsa_serve.specs.Requests.{Request, Step, Explain, Show, Fates, Fault, Ready, IsAskedIn, IsRead, Asks}
-use Rattle.dsa_serve.specs.Requests.{AreAsked}
+use Rattle.dsa_serve.specs.Requests.{AreAsked, TellsNoJson}
 use Rattle.dsa_serve.specs.{Requests.{actions_of, observed_of}, Answers.{answers, AreClosest}}
 use Rattle.dsa_serve.specs.{Input.{IsLine, AreLines}, Dialogue.{from_document, IsDialogue, IsObservedDocument}}
 use Rattle.dsa_serve.specs.Worked.{poll_line, explained_poll_line, show_line, line_of_fates, first_line, unseen}
-use Rattle.dsa_serve.specs.Worked.{not_json}
+use Rattle.dsa_serve.specs.Worked.{flaw_of_a_brace, not_json, not_utf8}
+use Rattle.dsa_check.proofs.OneLine.{open_flaw, byte_flaw}
 use Rattle.dsa_serve.proofs.RowLines.{line_by_test}
 
 -- ---- documents
@@ -123,7 +124,7 @@ asks_fates = (lit≤ tt, read_as line_of_fates _ _ (line_of_fates, (refl, refl))
 
 pub asks_no_json : Asks (codes "{") not_json
 unfolding serde_json_on_literals
-asks_no_json = inr (inl (lit≤ tt, λ utf8. refl, refl))
+asks_no_json = inr (inl (lit≤ tt, λ utf8. refl, (flaw_of_a_brace, open_flaw, refl)))
 
 -- no lines ask nothing
 pub no_request : (requests : List Request) → AreAsked [] requests → requests ≡ []
@@ -132,9 +133,9 @@ no_request (r ∷ requests) h = absurd h
 
 -- what is no JSON asks nothing else
 asks_nothing : (line : List ℕ) (request : Request) → length line ≤ 2 ^ 20 → read line ≡ None → Asks line request
-    → request ≡ not_json
+    → (why : List ℕ) × TellsNoJson line why × (request ≡ Fault why)
 asks_nothing line (Fault why) short none (inl h) = absurd (omega (arith, short, h.0))
-asks_nothing line (Fault why) short none (inr (inl h)) = ap Fault h.2
+asks_nothing line (Fault why) short none (inr (inl h)) = (why, h.2, refl)
 asks_nothing line (Fault why) short none (inr (inr h)) = let value = h.1.json.value in absurd cc
 asks_nothing line (Step action seen) short none h = let value = h.1.json.value in absurd cc
 asks_nothing line (Explain action seen) short none h = let value = h.1.json.value in absurd cc
@@ -143,10 +144,20 @@ asks_nothing line Fates short none h = let value = h.1.json.value in absurd cc
 asks_nothing line (Ready count) short none h = let value = h.1.json.value in absurd cc
 
 pub one_fault : (line : List ℕ) (requests : List Request) → length line ≤ 2 ^ 20 → read line ≡ None
-    → AreAsked (line ∷ []) requests → requests ≡ not_json ∷ []
+    → AreAsked (line ∷ []) requests → (why : List ℕ) × TellsNoJson line why × (requests ≡ Fault why ∷ [])
 one_fault line [] short none h = absurd h
-one_fault line (r ∷ []) short none h = ap (λ x. x ∷ []) (asks_nothing line r short none h.0)
+one_fault line (r ∷ []) short none h =
+    let it = asks_nothing line r short none h.0 in
+    (it.0, it.1, ap (λ x. x ∷ []) it.2)
 one_fault line (r ∷ s ∷ requests) short none h = absurd h.1
+
+-- a byte that is no UTF-8 is told as such
+pub odd_byte : (requests : List Request) → AreAsked ((255 ∷ []) ∷ []) requests → requests ≡ not_utf8 ∷ []
+unfolding serde_json_on_literals
+odd_byte requests h =
+    let one = one_fault (255 ∷ []) requests (lit≤ tt) refl h in
+    let flaw = byte_flaw one.1.0 one.1.1 in
+    one.2 ∙ ap (λ why. Fault why ∷ []) (one.1.2 ∙ ap (λ text. codes "not JSON: " ++ text) flaw)
 
 -- ---- dialogues
 

@@ -93,5 +93,6 @@ pub no_step_apart : (text : List ℕ) (texts : List (List ℕ)) (byte : ℕ) →
 no_step_apart text texts byte here other = apart_at 2 byte 32 text
     (codes "no step: " ++ joined_text texts) here refl other
 
-pub json_apart : (texts : List (List ℕ)) → codes "not JSON" ≢ codes "no step: " ++ joined_text texts
-json_apart texts = no_step_apart (codes "not JSON") texts 116 refl (λ same. omega (arith, same))
+pub json_apart : (flaw : List ℕ) (texts : List (List ℕ))
+    → codes "not JSON: " ++ flaw ≢ codes "no step: " ++ joined_text texts
+json_apart flaw texts = no_step_apart (codes "not JSON: " ++ flaw) texts 116 refl (λ same. omega (arith, same))

@@ -5,7 +5,7 @@ use Rattle.std.specs.Prelude.{bytes_eq, if◌then◌else◌, Option, Some, None,
 use Rattle.serde_json.specs.{Data.{Data}, Find.{get}}
 use Rattle.dsa_scenario.specs.declared.actions.Action.{Action}
 use Rattle.dsa_scenario.specs.{Fields.{◌>>=◌, Row, text_of}, Document.{IsJson, IsNoJson}}
-use Rattle.dsa_check.specs.OneStep.{AreStepTexts, AreKeyTexts, joined_text}
+use Rattle.dsa_check.specs.{OneStep.{AreStepTexts, AreKeyTexts, joined_text}, OneLine.{IsFlawText}}
 use Rattle.dsa_conform.specs.Seen.{Seen, seen_as, observation_of}
 use Rattle.dsa_serve.specs.declared.requests.Line.{Line}
 use Rattle.dsa_serve.specs.declared.requests.Line.TheVariants as line
@@ -98,11 +98,15 @@ pub record IsRead (line : List ℕ) (request : Request) : Type 0 where
   pub json : IsJson line document
   pub asks : IsAskedIn document request
 
+-- the text tells that the line is no JSON text, and where and why in the words of a check (profile)
+abbrev pub TellsNoJson : List ℕ → List ℕ → Type 0
+TellsNoJson line text = (flaw : List ℕ) × IsFlawText line flaw × (text ≡ codes "not JSON: " ++ flaw)
+
 -- the text tells why the line asks nothing: it is too long, or no JSON text, or its value asks nothing (profile)
 abbrev pub TellsFault : List ℕ → List ℕ → Type 0
 TellsFault line text =
     ((2 ^ 20 < length line) × (text ≡ codes "line too long"))
-    ⊎ ((length line ≤ 2 ^ 20) × IsNoJson line × (text ≡ codes "not JSON"))
+    ⊎ ((length line ≤ 2 ^ 20) × IsNoJson line × TellsNoJson line text)
     ⊎ ((length line ≤ 2 ^ 20) × IsRead line (Fault text))
 
 -- what a line asks, or why it asks nothing (profile)

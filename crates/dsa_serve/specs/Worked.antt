@@ -25,9 +25,20 @@ unseen = record { answer = None; zf = None }
 abbrev pub seen : List ℕ → Seen
 seen text = record { answer = Some text; zf = None }
 
--- what asks nothing, since it is no JSON text
+-- what is wrong with an open brace alone, what such a line asks, and what one asks whose byte is no UTF-8
+abbrev pub flaw_of_a_brace : List ℕ
+flaw_of_a_brace = codes "column 2: the end is here, a key in double quotes or } is wanted"
+
 abbrev pub not_json : Request
-not_json = Fault (codes "not JSON")
+not_json = Fault (codes "not JSON: " ++ flaw_of_a_brace)
+
+abbrev pub not_utf8 : Request
+not_utf8 = Fault (codes "not JSON: column 1: the bytes are no UTF-8")
+
+-- the answers to a document without steps and to an open brace
+abbrev pub answers_to_a_brace : List ℕ
+answers_to_a_brace =
+    codes "ready 0\nfault not JSON: column 2: the end is here, a key in double quotes or } is wanted\n"
 
 -- five lines, two of them with a fault
 abbrev pub requests_of_a_dialogue : List Request
@@ -47,8 +58,9 @@ records_of_a_dialogue = Refused no_command ∷ records_of_two_polls
 
 abbrev pub lines_of_a_dialogue : List ℕ
 lines_of_a_dialogue =
-    codes "refused 13 BadCommand\nfault not JSON\nnothing\n2 poll -> nothing: no command is active\n"
-    ++ codes "fault no step: \"do\" is missing\n"
+    codes "refused 13 BadCommand\n"
+    ++ codes "fault not JSON: column 2: the end is here, a key in double quotes or } is wanted\n"
+    ++ codes "nothing\n2 poll -> nothing: no command is active\nfault no step: \"do\" is missing\n"
 
 -- a line that asks for a poll, and one that asks for its explanation
 abbrev pub poll_line : List ℕ

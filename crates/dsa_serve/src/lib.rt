@@ -16,6 +16,6 @@ pub use dialogue::Dialogue;
 pub use ending::Inside;
 pub use front::{Front, read_first};
 pub use opening::begin;
-pub use requests::{Line, MAX_LINE, no_step, parse_line};
+pub use requests::{Line, MAX_LINE, no_json, no_step, parse_line};
 pub use serving::{serve_counted, serve_watched};
 pub use session::Session;

@@ -6,9 +6,9 @@ ghost use Rattle.dsa_conform.specs.Seen.{seen_as};
 ghost use Rattle.dsa_scenario.specs.Fields.{text_of};
 ghost use Rattle.dsa_check.specs.Lines.{reason_text};
 ghost use Rattle.dsa_serve.specs.Requests.{explained_of, is_explanation, request_as, request_of};
-ghost use Rattle.dsa_serve.specs.Requests.{request_of_word, AreTextsOf, TellsNoStep};
+ghost use Rattle.dsa_serve.specs.Requests.{request_of_word, AreTextsOf, TellsNoJson, TellsNoStep};
 
-use dsa_check::{Reason, add_joined, reasons_of_keys, reasons_of_step};
+use dsa_check::{Reason, add_flaw, add_joined, reasons_of_keys, reasons_of_step};
 use dsa_conform::{Observed, parse_step};
 use dsa_scenario::{Action, Field, Form, table_of};
 use serde_json::Value;
@@ -109,5 +109,14 @@ pub fn no_step(alloc: Global, value: &Value) -> Result<String, AllocError>
     let mut why = String::from_str(alloc, "no step: ")?;
     let reasons = reasons_of(alloc, value)?;
     add_joined(&mut why, reasons.as_slice())?;
+    Ok(why)
+}
+
+/// Why a line is no JSON text, and where.
+pub fn no_json(alloc: Global, line: &[u8]) -> Result<String, AllocError>
+    ensures { IfOk result (λ why. TellsNoJson line.now (string_bytes why)) }
+{
+    let mut why = String::from_str(alloc, "not JSON: ")?;
+    add_flaw(alloc, &mut why, line)?;
     Ok(why)
 }

@@ -21,6 +21,7 @@ ghost use Rattle.dsa_scenario.specs.Worked.{smallest_caps, smallest_caps_text, n
 ghost use Rattle.dsa_scenario.specs.Worked.{document_text, caps_of_a_run, actions_of_a_run};
 ghost use Rattle.dsa_serve.specs.declared.dialogue.Dialogue.{Dialogue};
 ghost use Rattle.dsa_serve.specs.declared.requests.Line.TheVariants as line;
+ghost use Rattle.dsa_check.specs.OneLine.{IsFlawText};
 ghost use Rattle.dsa_serve.specs.Requests.{explanation_rows, is_word, request_as};
 ghost use Rattle.dsa_serve.specs.Requests.{Step, Explain, Show, Fates, Fault, Ready};
 ghost use Rattle.dsa_serve.specs.Requests.{request_of, actions_of, IsAskedIn, IsRead, Asks};
@@ -39,7 +40,8 @@ ghost use Rattle.dsa_serve.specs.Worked.{explain_around, requests_of_a_dialogue}
 ghost use Rattle.dsa_serve.specs.Worked.{records_of_a_dialogue, lines_of_a_dialogue};
 ghost use Rattle.dsa_serve.specs.Worked.{records_of_two_polls, polled_record, poll_line};
 ghost use Rattle.dsa_serve.specs.Worked.{explained_poll_line, first_line, unseen, seen};
-ghost use Rattle.dsa_serve.specs.Worked.{line_of_fates, new_device_line, not_json, show_line};
+ghost use Rattle.dsa_serve.specs.Worked.{answers_to_a_brace, line_of_fates, new_device_line};
+ghost use Rattle.dsa_serve.specs.Worked.{not_json, show_line};
 ghost use Rattle.dsa_serve.specs.Worked.{with_a_fate, with_two_fates};
 
 /// A step object asks its step, and `explain` around one its explanation. The words `show` and
@@ -124,6 +126,12 @@ pub fn lines()
     ensures too_long_to_show { (line : List ℕ) → length line ≡ 1_048_577 → ¬ Asks line Show }
     ensures no_step { Asks (codes "{}") (Fault (codes "no step: \"do\" is missing")) }
     ensures cut { Asks (codes "{") not_json }
+    ensures empty { Asks []
+        (Fault (codes "not JSON: column 1: the end is here, an object is wanted")) }
+    ensures bytes { (text : List ℕ)
+        → Asks (255 ∷ []) (Fault text)
+        → text ≡ codes "not JSON: column 1: the bytes are no UTF-8" }
+    ensures placeless { ¬ Asks (codes "{") (Fault (codes "not JSON")) }
     ensures too_long { (line : List ℕ)
         → length line ≡ 1_048_577
         → Asks line (Fault (codes "line too long")) }
@@ -140,10 +148,11 @@ pub fn lines()
         → ¬ Asks line not_json }
     ensures each { AreAsked (poll_line ∷ codes "{" ∷ [])
         (Step (Ask Poll) unseen ∷ not_json ∷ []) }
-    ensures longest_that_is_no_json { (line : List ℕ)
+    ensures longest_that_is_no_json { (line flaw : List ℕ)
         → length line ≡ 1_048_576
         → IsNoJson line
-        → Asks line not_json }
+        → IsFlawText line flaw
+        → Asks line (Fault (codes "not JSON: " ++ flaw)) }
     ensures longest_that_is_read { (line why : List ℕ)
         → length line ≡ 1_048_576
         → IsRead line (Fault why)
@@ -264,14 +273,15 @@ pub fn differences()
 pub fn dialogues()
     ensures no_lines { IsDialogue (first_line []) [] (opening smallest_caps) (codes "ready 0\n") }
     ensures whole { AnswersWhole false (line_of_text (first_line []) ++ codes "{\n{")
-        (codes "ready 0\nfault not JSON\n") }
-    ensures all { AnswersAll (line_of_text (first_line []) ++ codes "{")
-        (codes "ready 0\nfault not JSON\n") }
+        answers_to_a_brace }
+    ensures all { AnswersAll (line_of_text (first_line []) ++ codes "{") answers_to_a_brace }
     ensures lines { IsDialogue (first_line poll_line) (codes "{" ∷ explained_poll_line ∷ [])
         (opening smallest_caps)
-        (codes "nothing\nready 1\nfault not JSON\n1 poll -> nothing: no command is active\n") }
+        (codes "nothing\nready 1\nfault not JSON: column 2: the end is here, "
+        ++ codes "a key in double quotes or } is wanted\n"
+        ++ codes "1 poll -> nothing: no command is active\n") }
     ensures so_far { AnswersSoFar (line_of_text (first_line []) ++ codes "{\n{")
-        (codes "ready 0\nfault not JSON\n") }
+        answers_to_a_brace }
     ensures write { IsStopped ScenarioFault.Write
         (Some (line_of_text (first_line []) ++ codes "{\n{1")) (Some (codes "1"))
         (Some (codes "2")) (Some (codes "2ready")) }
@@ -282,7 +292,7 @@ pub fn dialogues()
         → length rest ≡ 65_535
         → IsStopped ScenarioFault.OutOfMemory
         (Some ((line_of_text (first_line []) ++ codes "{\n") ++ 10 ∷ rest)) (Some [])
-        (Some []) (Some (codes "ready 0\nfault not JSON\n")) }
+        (Some []) (Some answers_to_a_brace) }
     ensures memory_at_the_only_line { IsStopped ScenarioFault.OutOfMemory
         (Some (first_line poll_line)) (Some []) (Some []) (Some (codes "nothing\nready 1\n")) }
     ensures ended { (first : List ℕ)
@@ -391,15 +401,16 @@ pub fn one_dialogue()
         → IsDialogueEnded (first_line []) [] output
         → output ≡ codes "ready 0\n" }
     ensures one_answer { (last : State) (output : List ℕ)
-        → IsDialogue (first_line []) (codes "{" ∷ []) last output
-        → output ≡ codes "ready 0\nfault not JSON\n" }
+        → IsDialogue (first_line []) ((255 ∷ []) ∷ []) last output
+        → output ≡ codes "ready 0\nfault not JSON: column 1: the bytes are no UTF-8\n" }
     ensures one_run { (last : State) (output : List ℕ)
         → IsDialogue (first_line poll_line) [] last output
         → output ≡ codes "nothing\nready 1\n" }
     ensures cut { (text : List ℕ)
-        → IsStopped ScenarioFault.Write (Some (line_of_text (first_line []) ++ codes "{\n1"))
-        (Some (codes "1")) (Some []) (Some text)
-        → length text < 23 }
+        → IsStopped ScenarioFault.Write
+        (Some (line_of_text (first_line []) ++ 255 ∷ codes "\n1")) (Some (codes "1"))
+        (Some []) (Some text)
+        → length text < 57 }
     ensures rest_before_the_end { (text : List ℕ)
         → IsStopped ScenarioFault.Write (Some (line_of_text (first_line []) ++ codes "{1"))
         (Some (codes "1")) (Some []) (Some text)

@@ -10,7 +10,7 @@ ghost use Rattle.dsa_serve.specs.Requests.{Request, Step, Explain, Fates, Asks, 
 ghost use Rattle.dsa_serve.specs.Answers.{difference, refusal_line, shown_text, new_fates_text};
 ghost use Rattle.dsa_serve.specs.Answers.{IsSessionTo};
 
-use crate::requests::{Line, MAX_LINE, no_step, parse_line};
+use crate::requests::{Line, MAX_LINE, no_json, no_step, parse_line};
 use dsa_book::{FateRow, Ticket};
 use dsa_conform::{Closest, Observed, follow_closest};
 use dsa_device::Device;
@@ -204,7 +204,10 @@ impl<S: EntryStore> Session<S> {
         }
         match parse_json(alloc, line) {
             Ok(value) => self.answer_value(alloc, text, &value),
-            Err(ScenarioFault::NotJson) => add_fault(text, "not JSON"),
+            Err(ScenarioFault::NotJson) => {
+                let why = no_json(alloc, line)?;
+                add_fault(text, why.as_str())
+            }
             Err(_) => Err(AllocError),
         }
     }

@@ -1,3 +1,4 @@
 pub mod Adding
 pub mod Listed
 pub mod Numbers
+pub mod Snapshots

@@ -11,7 +11,7 @@ use Rattle.dsa_book.specs.{State.{State, occupancy, phase_at}, Work.{used, group
 use Rattle.dsa_book.specs.declared.note.BatchNote.{BatchNote}
 use Rattle.dsa_device.specs.Reads.{awaited}
 use Rattle.dsa_event_text.specs.Text.{command_with_operand, phase_word}
-use Rattle.dsa_trace.specs.declared.form.{Trace.{Trace, TheVariants.{Table, Json}}, Part.{Part}, Items.{Items}}
+use Rattle.dsa_trace.specs.declared.form.{Trace.{Trace, TheVariants.{Table, Json, Changes}}, Part.{Part}, Items.{Items}}
 use Rattle.dsa_trace.specs.declared.form.Items.TheVariants.{Queues, Engines, Groups}
 use Rattle.dsa_trace.specs.declared.form.Part.TheVariants as part
 use Rattle.dsa_trace.specs.{Marks.{mark, comma, pad}, Names.{names_part}, Notes.{batch_part}, Errors.{error_part}}
@@ -95,11 +95,16 @@ group_text form group taken config = if is_unused form config then [] else
     (comma form group ++ marked form part.Group group ++ aligned form part.Used taken config.allowed
     ++ marked form part.Allowed config.allowed ++ reserved_text form config.reserved ++ mark form part.ObjectEnd)
 
+-- where no command is active, a row says nothing of it, and a row of changes that there is none
+abbrev pub absent_command : Trace → Part
+absent_command Changes = part.NoMoreCommand
+absent_command _ = part.NoCommand
+
 -- the command that is not over, and how many entries it waits for
 abbrev pub command_text : Trace → Option Command → Option ℕ → List ℕ
 command_text form (Some command) (Some count) =
     mark form part.Active ++ command_with_operand command ++ marked form part.Awaited count ++ mark form part.ObjectEnd
-command_text form _ _ = mark form part.NoCommand
+command_text form _ _ = mark form (absent_command form)
 
 -- ---- of a state
 

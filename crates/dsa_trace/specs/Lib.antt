@@ -6,5 +6,6 @@ pub mod Results
 pub mod Ended
 pub mod Columns
 pub mod Held
+pub mod Changes
 pub mod Lines
 pub mod Run

@@ -1,9 +1,9 @@
 -- What stands before the parts of a line, in each form (profile).
-use Rattle.std.specs.Prelude.{ℕ, ◌==◌, ◌-◌, if◌then◌else◌, Bool, true, false, List, [], codes, decimal, length}
+use Rattle.std.specs.Prelude.{ℕ, ◌==◌, ◌-◌, if◌then◌else◌, List, [], codes, decimal, length}
 use Rattle.std.specs.Prelude.{replicate}
-use Rattle.dsa_trace.specs.declared.form.{Trace.{Trace, TheVariants.{Json}}, Part.{Part}}
+use Rattle.dsa_trace.specs.declared.form.{Trace.{Trace, TheVariants.{Json, Changes}}, Part.{Part}}
 use Rattle.dsa_trace.specs.declared.form.Items.TheVariants.{Queues, Engines, Groups}
-use Rattle.dsa_trace.specs.declared.form.Part.TheVariants.{Step, Event, Answer, Items, NoCommand}
+use Rattle.dsa_trace.specs.declared.form.Part.TheVariants.{Step, Event, Answer, Items, NoCommand, NoMoreCommand}
 use Rattle.dsa_trace.specs.declared.form.Part.TheVariants.{Active, Awaited, LineEnd, Queue, Occupancy}
 use Rattle.dsa_trace.specs.declared.form.Part.TheVariants.{Threshold, Size, Engine, InProgress, Slots, Members, Group}
 use Rattle.dsa_trace.specs.declared.form.Part.TheVariants.{Used, Allowed, Held, InList, HeldEnd}
@@ -30,6 +30,7 @@ marks (Items Queues) = (codes " |", codes ",\"queues\":[")
 marks (Items Engines) = (codes " |", codes "],\"engines\":[")
 marks (Items Groups) = (codes " |", codes "],\"groups\":[")
 marks NoCommand = ([], codes "],\"active\":null")
+marks NoMoreCommand = (codes " | no command", [])
 marks Active = (codes " | ", codes "],\"active\":{\"command\":\"")
 marks Awaited = (codes " awaits ", codes "\",\"awaited\":")
 marks LineEnd = (codes "\n", codes "}\n")
@@ -57,10 +58,6 @@ marks Held = (codes "held ", codes "{\"held\":")
 marks InList = (codes " in ", codes ",\"list\":\"")
 marks HeldEnd = (codes "\n", codes "\"}\n")
 
-abbrev pub is_json : Trace → Bool
-is_json Json = true
-is_json _ = false
-
 abbrev pub mark : Trace → Part → List ℕ
 mark Json part = (marks part).1
 mark _ part = (marks part).0
@@ -70,7 +67,8 @@ abbrev pub comma : Trace → ℕ → List ℕ
 comma Json place = if place == 0 then [] else codes ","
 comma _ place = []
 
--- as many spaces before a number of a row as it has digits fewer than the greatest one
+-- as many spaces before a number of a row as it has digits fewer than the greatest one; a row of changes has no columns
 abbrev pub pad : Trace → ℕ → ℕ → List ℕ
 pad Json n most = []
+pad Changes n most = []
 pad _ n most = replicate (length (decimal most) - length (decimal n)) 32

@@ -26,3 +26,8 @@ abbrev pub list_names : ListUse → List HeldEntry → List ℕ
 list_names list [] = []
 list_names list (pair ∷ pairs) =
     (codes " | " ++ list_text list) ++ (codes " [" ++ decimal pair.1.name) ++ flat_map further_name pairs ++ codes "]"
+
+-- the same also where it has none
+abbrev pub bracketed_names : ListUse → List HeldEntry → List ℕ
+bracketed_names list pairs =
+    (codes " | " ++ list_text list) ++ codes " [" ++ entry_names_text pairs ++ codes "]"

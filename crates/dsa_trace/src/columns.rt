@@ -3,7 +3,8 @@
 ghost use Rattle.std.specs.Prelude.{◌≡◌, ◌<◌, ◌^◌, IsTrue};
 ghost use Rattle.dsa_regs.specs.Caps.{check_caps};
 ghost use Rattle.dsa_event_text.specs.Added.{Adds};
-ghost use Rattle.dsa_trace.specs.Columns.{row_columns, command_column, command_text, engine_text};
+ghost use Rattle.dsa_trace.specs.Columns.{absent_command, row_columns, command_column};
+ghost use Rattle.dsa_trace.specs.Columns.{command_text, engine_text};
 ghost use Rattle.dsa_trace.specs.Columns.{group_text, is_left_out, is_unplaced, is_unused};
 ghost use Rattle.dsa_trace.specs.Columns.{item_count, item_text, items_text};
 ghost use Rattle.dsa_trace.specs.Columns.{limits_text, phase_text, queue_phase, queue_text};
@@ -26,7 +27,7 @@ fn is_left_out(form: Trace, config: &QueueConfig) -> bool
 {
     match form {
         Trace::Table => config.size == 0,
-        Trace::Wide | Trace::Json => false,
+        Trace::Wide | Trace::Json | Trace::Changes => false,
     }
 }
 
@@ -35,7 +36,7 @@ fn is_unplaced(form: Trace, group: Option<u16>) -> bool
 {
     match form {
         Trace::Table => group.is_none(),
-        Trace::Wide | Trace::Json => false,
+        Trace::Wide | Trace::Json | Trace::Changes => false,
     }
 }
 
@@ -44,7 +45,7 @@ fn is_unused(form: Trace, config: &GroupConfig) -> bool
 {
     match form {
         Trace::Table => config.queues == 0 && config.engines == 0,
-        Trace::Wide | Trace::Json => false,
+        Trace::Wide | Trace::Json | Trace::Changes => false,
     }
 }
 
@@ -69,7 +70,7 @@ fn add_phase(text: &mut String, form: Trace, part: Part, phase: Phase) -> Added
     ensures { Adds result text.old text.new (phase_text form part phase) }
 {
     match form {
-        Trace::Table | Trace::Wide => Ok(()),
+        Trace::Table | Trace::Wide | Trace::Changes => Ok(()),
         Trace::Json => {
             add_mark(text, form, part)?;
             text.push_str(phase_word(phase))
@@ -166,7 +167,7 @@ fn add_reserved(text: &mut String, form: Trace, reserved: u16) -> Added
     ensures { Adds result text.old text.new (reserved_text form reserved) }
 {
     match form {
-        Trace::Table | Trace::Wide => Ok(()),
+        Trace::Table | Trace::Wide | Trace::Changes => Ok(()),
         Trace::Json => add_marked(text, form, Part::Reserved, u32::from(reserved)),
     }
 }
@@ -186,6 +187,16 @@ fn add_group(text: &mut String, form: Trace, group: u16, taken: u16, config: &Gr
     add_mark(text, form, Part::ObjectEnd)
 }
 
+// The part that a line has where no command is active.
+fn absent_command(form: Trace) -> Part
+    ensures { result ≡ absent_command form }
+{
+    match form {
+        Trace::Changes => Part::NoMoreCommand,
+        Trace::Table | Trace::Wide | Trace::Json => Part::NoCommand,
+    }
+}
+
 fn add_active(
     text: &mut String,
     form: Trace,
@@ -201,12 +212,12 @@ fn add_active(
             add_marked(text, form, Part::Awaited, count)?;
             add_mark(text, form, Part::ObjectEnd)
         }
-        _ => add_mark(text, form, Part::NoCommand),
+        _ => add_mark(text, form, absent_command(form)),
     }
 }
 
-// What a line shows of the item of this number.
-fn add_item<S: EntryStore>(
+/// Adds what a line shows of the item of this number.
+pub fn add_item<S: EntryStore>(
     text: &mut String,
     form: Trace,
     device: &Device<S>,
@@ -254,7 +265,8 @@ fn add_item<S: EntryStore>(
     }
 }
 
-fn item_count(caps: &Caps, items: Items) -> u16
+/// How many items of this kind the device has.
+pub fn item_count(caps: &Caps, items: Items) -> u16
     ensures { result ≡ item_count caps.now items }
 {
     match items {

@@ -48,7 +48,7 @@ pub fn add_error(text: &mut String, form: Trace, noted: Option<NotedError>) -> A
     ensures { Adds result text.old text.new (error_part form noted) }
 {
     match (form, noted) {
-        (Trace::Table | Trace::Wide, _) => Ok(()),
+        (Trace::Table | Trace::Wide | Trace::Changes, _) => Ok(()),
         (Trace::Json, None) => add_mark(text, form, Part::NoError),
         (Trace::Json, Some(noted)) => {
             add_mark(text, form, Part::Error)?;

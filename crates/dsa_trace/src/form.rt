@@ -3,7 +3,7 @@
 ghost use Rattle.std.specs.Prelude.{◌≡◌, decimal, length, replicate};
 ghost use Rattle.dsa_event_text.specs.Added.{Adds};
 ghost use Rattle.dsa_trace.specs.Columns.{aligned, marked};
-ghost use Rattle.dsa_trace.specs.Marks.{comma, is_json, mark, marks, pad};
+ghost use Rattle.dsa_trace.specs.Marks.{comma, mark, marks, pad};
 
 use dsa_event_text::{Added, add_number};
 use itoa::Buffer;
@@ -17,6 +17,8 @@ pub enum Trace {
     Wide,
     /// A JSON object for each step, in a line of its own.
     Json,
+    /// A row for each step with what the step changed.
+    Changes,
 }
 
 /// What a line has an array of.
@@ -44,6 +46,7 @@ pub enum Part {
     Error,
     Items(Items),
     NoCommand,
+    NoMoreCommand,
     Active,
     Awaited,
     LineEnd,
@@ -95,6 +98,7 @@ fn marks(part: Part) -> (&'static str, &'static str)
         Part::Items(Items::Engines) => (" |", "],\"engines\":["),
         Part::Items(Items::Groups) => (" |", "],\"groups\":["),
         Part::NoCommand => ("", "],\"active\":null"),
+        Part::NoMoreCommand => (" | no command", ""),
         Part::Active => (" | ", "],\"active\":{\"command\":\""),
         Part::Awaited => (" awaits ", "\",\"awaited\":"),
         Part::LineEnd => ("\n", "}\n"),
@@ -125,16 +129,6 @@ fn marks(part: Part) -> (&'static str, &'static str)
 }
 
 impl Trace {
-    /// Whether lines are JSON objects.
-    pub fn is_json(self) -> bool
-        ensures { result ≡ is_json self }
-    {
-        match self {
-            Trace::Json => true,
-            Trace::Table | Trace::Wide => false,
-        }
-    }
-
     /// What stands before the part, or in its place.
     #[inline(always)]
     pub fn mark(self, part: Part) -> &'static str
@@ -142,7 +136,7 @@ impl Trace {
     {
         let (row, json) = marks(part);
         match self {
-            Trace::Table | Trace::Wide => row,
+            Trace::Table | Trace::Wide | Trace::Changes => row,
             Trace::Json => json,
         }
     }
@@ -186,7 +180,7 @@ pub fn add_pad(text: &mut String, form: Trace, number: u64, most: u64) -> Added
     ensures { Adds result text.old text.new (pad form number most) }
 {
     match form {
-        Trace::Json => Ok(()),
+        Trace::Json | Trace::Changes => Ok(()),
         Trace::Table | Trace::Wide => add_spaces(
             text,
             digit_count(most).saturating_sub(digit_count(number)),

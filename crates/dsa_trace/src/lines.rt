@@ -6,11 +6,14 @@ ghost use Rattle.dsa_event_text.specs.Added.{Adds};
 ghost use Rattle.dsa_trace.specs.declared.form.Part.TheVariants as part;
 ghost use Rattle.dsa_trace.specs.Columns.{marked};
 ghost use Rattle.dsa_trace.specs.Ended.{ended_rows, fate_objects};
-ghost use Rattle.dsa_trace.specs.Lines.{answered_text, json_line, outcome_text, row_line};
+ghost use Rattle.dsa_trace.specs.Changes.{line_texts};
+ghost use Rattle.dsa_trace.specs.Lines.{answered_text, change_line, change_row, json_line};
+ghost use Rattle.dsa_trace.specs.Lines.{outcome_text, row_line};
 ghost use Rattle.dsa_trace.specs.Lines.{step_line, traced_event_words};
 ghost use Rattle.dsa_trace.specs.Marks.{mark, pad};
 ghost use Rattle.dsa_trace.specs.Results.{result_kind, record_members};
 
+use crate::changes::{add_changed_columns, add_changed_lists, add_snapshot, lines_of};
 use crate::columns::{add_columns, add_command_column, add_state_members};
 use crate::ended::{add_fates, ended_rows};
 use crate::form::{Part, Trace, add_mark, add_pad};
@@ -125,13 +128,47 @@ fn add_row<S: EntryStore>(text: &mut String, form: Trace, step: &StepMade<'_, S>
     add_mark(text, form, Part::LineEnd)
 }
 
-/// Adds the line of a step, with what the device shows after it.
+// The row of a step with these lines of the snapshots before and after it.
+fn add_change_row<S: EntryStore>(
+    text: &mut String,
+    step: &StepMade<'_, S>,
+    was: &[&str],
+    now: &[&str],
+) -> Added
+    ensures { Adds result text.old text.new
+        (change_row (line_texts was.now) (line_texts now.now) step.now.number step.now.entry.now
+        step.now.device.now.caps) }
+{
+    let form = Trace::Changes;
+    add_place(text, form, step.number)?;
+    add_changed_columns(text, was, now, step.device)?;
+    add_asked(text, form, step.entry)?;
+    add_answered(text, form, step.entry)?;
+    add_changed_lists(text, was, now, step.device)?;
+    add_mark(text, form, Part::LineEnd)
+}
+
+// The row of a step, from the snapshot that was told of the device before it.
+fn add_changes<S: EntryStore>(text: &mut String, step: &StepMade<'_, S>) -> Added
+    ensures { Adds result text.old text.new
+        (change_line step.now.told.now step.now.number step.now.entry.now step.now.device.now) }
+{
+    let mut snapshot = String::new(step.alloc);
+    add_snapshot(&mut snapshot, step.device)?;
+    let was = lines_of(step.alloc, step.told)?;
+    let now = lines_of(step.alloc, &snapshot)?;
+    add_change_row(text, step, was.as_slice(), now.as_slice())
+}
+
+/// Adds the line of a step, with what the device shows after it, or with what that changed.
 pub fn add_step<S: EntryStore>(text: &mut String, form: Trace, step: &StepMade<'_, S>) -> Added
     ensures { Adds result text.old text.new
-        (step_line form step.now.number step.now.entry.now step.now.device.now) }
+        (step_line form step.now.told.now step.now.number step.now.entry.now step.now.device.now) }
 {
-    if form.is_json() {
-        return add_object(text, step);
+    match form {
+        Trace::Json => add_object(text, step),
+        Trace::Changes => add_changes(text, step),
+        Trace::Table => add_row(text, Trace::Table, step),
+        Trace::Wide => add_row(text, Trace::Wide, step),
     }
-    add_row(text, form, step)
 }

@@ -2,7 +2,8 @@
 
 ghost use Rattle.std.specs.Prelude.{flat_map};
 ghost use Rattle.dsa_event_text.specs.Added.{Adds};
-ghost use Rattle.dsa_trace.specs.Names.{entry_names_text, further_name, list_names, names_part};
+ghost use Rattle.dsa_trace.specs.Names.{bracketed_names, entry_names_text, further_name};
+ghost use Rattle.dsa_trace.specs.Names.{list_names, names_part};
 
 use crate::form::{Part, Trace, add_mark};
 use dsa_event_text::{Added, add_list, add_number};
@@ -30,13 +31,28 @@ pub fn add_names<S: EntryStore>(
     ensures { Adds result text.old text.new (names_part form part entries.entry) }
 {
     match form {
-        Trace::Table | Trace::Wide => Ok(()),
+        Trace::Table | Trace::Wide | Trace::Changes => Ok(()),
         Trace::Json => {
             add_mark(text, form, part)?;
             add_each(text, entries)?;
             add_mark(text, form, Part::NamesEnd)
         }
     }
+}
+
+/// Adds a bar and a list with the names of the entries that it has, also where it has none.
+pub fn add_bracketed_names<S: EntryStore>(
+    text: &mut String,
+    list: ListUse,
+    entries: Walk<'_, S>,
+) -> Added
+    ensures { Adds result text.old text.new (bracketed_names list entries.entry) }
+{
+    text.push_str(" | ")?;
+    add_list(text, list)?;
+    text.push_str(" [")?;
+    add_each(text, entries)?;
+    text.push_str("]")
 }
 
 // The names, each behind a comma.

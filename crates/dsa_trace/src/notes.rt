@@ -31,7 +31,7 @@ pub fn add_batch(text: &mut String, form: Trace, note: Option<BatchNote>) -> Add
     ensures { Adds result text.old text.new (batch_part form note) }
 {
     match (form, note) {
-        (Trace::Table | Trace::Wide, _) => Ok(()),
+        (Trace::Table | Trace::Wide | Trace::Changes, _) => Ok(()),
         (Trace::Json, None) => add_mark(text, form, Part::NoBatch),
         (Trace::Json, Some(note)) => {
             add_mark(text, form, Part::Batch)?;

@@ -1,11 +1,13 @@
 //! A document in, the trace of its run out, line by line.
 
-ghost use Rattle.std.specs.Prelude.{◌≡◌, [], flat_map, string_bytes};
+ghost use Rattle.std.specs.Prelude.{◌≡◌, flat_map, string_bytes};
 ghost use Rattle.dsa_scenario.proofs.StreamWrites.{lines_before};
+ghost use Rattle.dsa_trace.specs.Changes.{told_before_step};
 ghost use Rattle.dsa_trace.specs.Held.{held_lines};
 ghost use Rattle.dsa_trace.specs.Lines.{trace_line_of_step};
 ghost use Rattle.dsa_trace.specs.Run.{IsTraceOf};
 
+use crate::changes::add_snapshot;
 use crate::form::Trace;
 use crate::held::add_held;
 use crate::lines::add_step;
@@ -21,7 +23,7 @@ use std::io::Write;
 impl RenderSteps for Trace {
     type Page = String;
 
-    ghost told_before = { λ form now asked. [] };
+    ghost told_before = { λ form now asked. told_before_step form now };
 
     ghost is_page = { λ form steps page. string_bytes page
         ≡ flat_map (trace_line_of_step form) steps };
@@ -33,8 +35,12 @@ impl RenderSteps for Trace {
     }
 
     #[inline(always)]
-    fn look<S: EntryStore>(&self, alloc: Global, _device: &Device<S>, _asked: &Asked) -> MadeText {
-        Ok(String::new(alloc))
+    fn look<S: EntryStore>(&self, alloc: Global, device: &Device<S>, _asked: &Asked) -> MadeText {
+        let mut told = String::new(alloc);
+        if let Trace::Changes = self {
+            add_snapshot(&mut told, device)?;
+        }
+        Ok(told)
     }
 
     fn add_step<S: EntryStore>(&self, page: &mut String, step: &StepMade<'_, S>) -> Added {

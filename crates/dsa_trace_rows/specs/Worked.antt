@@ -1,4 +1,5 @@
 -- A device and a step that the worked rows speak of.
+use Rattle.dsa_book.specs.declared.answer.PollAnswer.TheVariants as poll
 use Rattle.dsa_book.specs.declared.answer.Reply.TheVariants as reply
 use Rattle.dsa_book.specs.declared.event.Event.TheVariants as event
 use Rattle.std.specs.Prelude.{ℕ, ◌*◌, Bool, true, false, List, [], ◌∷◌, ◌++◌, Option, Some, None, codes}
@@ -71,6 +72,42 @@ abbrev pub step_of_a_trace : Visit
 step_of_a_trace =
     visit 12 (running_at_first smallest_caps 50)
     (stepped (event.Dispatch 1) (reply.Dispatch (Taken (record_ticket 5 33) 2))) device_of_a_trace
+
+-- the same device before engine 1 took entry 33, which was in front of queue 2
+abbrev pub device_before_a_dispatch : Running
+device_before_a_dispatch =
+    let s = device_of_a_trace.state in
+    record device_of_a_trace {
+      state = record s {
+        work = record s.work {
+          content =
+              [] ∷ (traced_entry 21 None 1 false ∷ traced_entry 22 None 1 false ∷ [])
+              ∷ (traced_entry 33 None 3 false ∷ traced_entry 23 None 1 false ∷ [])
+              ∷ (traced_entry 31 None 1 true ∷ []) ∷ (traced_entry 32 None 1 true ∷ []) ∷ []
+              ∷ (traced_entry 41 (Some 33) 2 true ∷ traced_entry 42 (Some 33) 1 false
+              ∷ traced_entry 43 (Some 33) 1 false ∷ []) ∷ [];
+        };
+      };
+    }
+
+abbrev pub dispatch_of_a_trace : Visit
+dispatch_of_a_trace = record step_of_a_trace { before = device_before_a_dispatch }
+
+-- the first step, before which and after which these devices are there
+abbrev pub poll_of_a_trace : Running → Running → Visit
+poll_of_a_trace before after = visit 0 before (stepped event.Poll (reply.Poll poll.Nothing)) after
+
+-- the smallest device, whose queue was written
+abbrev pub smallest_with_a_queue : Running
+smallest_with_a_queue =
+    let now = running_at_first smallest_caps 4 in
+    record now {
+      state = record now.state {
+        work = record now.state.work {
+          setup = record now.state.work.setup { configs = queue_of_a_trace 3 2 false ∷ [] };
+        };
+      };
+    }
 
 -- ---- answers and fates
 

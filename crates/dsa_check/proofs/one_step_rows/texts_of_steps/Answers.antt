@@ -2,7 +2,7 @@ use Rattle.dsa_check.proofs.one_step_rows.texts_of_steps.Goals as goal
 use Rattle.std.proofs.Common.{ℕ, List, [], ◌∷◌, refl}
 use Rattle.dsa_scenario.specs.Worked.{object_of, poll_step, digits_on_literals}
 use Rattle.dsa_check.specs.OneStep.{AreStepTexts}
-use Rattle.dsa_check.proofs.OneObject.{null_texts, no_kind_texts, command_texts, no_reasons}
+use Rattle.dsa_check.proofs.OneObject.{null_texts, no_kind_texts, command_texts, called_texts, no_reasons}
 
 unfounded : (text : List ℕ) → AreStepTexts (object_of poll_step) (text ∷ []) → ⊥
 unfounded text are =
@@ -18,6 +18,7 @@ returns c = record {
   no_kind = no_kind_texts;
   seen = ([], tt, refl);
   both = command_texts;
+  called = called_texts;
   untold = λ are. let told = rw are.1 at are.2 in absurd cc;
   unfounded = unfounded;
 }

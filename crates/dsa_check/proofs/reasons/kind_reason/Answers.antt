@@ -13,7 +13,7 @@ returns-in-Some-2 c none = (
 pub returns-in-None-2 : goal.returns-in-None-2
 returns-in-None-2 c none = (
   rw (← c.in-None.ensures) refl,
-  missing_at _ _ _ _ _ refl refl c.in-None.ensures (rw c.in-None-2.is at c.in_ok-found-in-None.ensures.nearest),
+  missing_at _ _ _ _ _ refl refl c.in-None.ensures (rw c.in-None-2.is at c.in_ok-found-in-None.ensures.nearest) refl,
 )
 
 pub returns-in-None-as_str : goal.returns-in-None-as_str

@@ -23,8 +23,8 @@ returns c = record {
     own = Missing steps ∷ [];
     inside = Missing slots ∷ [];
     both = refl;
-    of_document = (record { key = steps; named = of_steps; holder = no_caps; so = refl; stray = tt; near = refl }, tt);
-    of_caps = (record { key = slots; named = of_slots; holder = in_caps; so = refl; stray = tt; near = refl }, tt);
+    of_document = (record { key = steps; named = of_steps; holder = no_caps; so = refl; stray = tt; near = (refl, refl) }, tt);
+    of_caps = (record { key = slots; named = of_slots; holder = in_caps; so = refl; stray = tt; near = (refl, refl) }, tt);
   };
   alone = λ reason are. omega (
     arith,
@@ -34,7 +34,7 @@ returns c = record {
     one_inside are.inside are.of_caps,
   );
   step = λ key name holder.
-      (record { key = key; named = name; holder = holder; so = refl; stray = tt; near = refl }, tt);
+      (record { key = key; named = name; holder = holder; so = refl; stray = tt; near = (refl, refl) }, tt);
   step_in_caps = λ key holder are.
       let same = are.0.so in
       let own = are.0.holder in
@@ -45,6 +45,6 @@ returns c = record {
       absurd cc;
   other_reason = λ are. are.0.so;
   no_kind = λ key name holder.
-      (refl, record { key = key; named = name; holder = holder; so = refl; stray = tt; near = refl });
+      (refl, record { key = key; named = name; holder = holder; so = refl; stray = tt; near = (refl, refl) });
   misspelled_kind = λ key text are. let inside = are.1.stray.inside in absurd cc;
 }

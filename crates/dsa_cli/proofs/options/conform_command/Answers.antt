@@ -4,5 +4,5 @@ use Rattle.clap.specs.Simple.{with_rule}
 
 pub returns-clause-app : goal.returns-clause-app
 returns-clause-app c =
-    IfOk-weaker c.with_flag.result _ _ (λ command app. app ∙ ap₂ with_rule c.plain_command-command.ensures.app refl)
-    c.with_flag.ensures.app
+    let one = c.in_ok-command.ensures.app ∙ ap₂ with_rule c.plain_command-command.ensures.app refl in
+    IfOk-weaker c.with_flag-2.result _ _ (λ command app. app ∙ ap₂ with_rule one refl) c.with_flag-2.ensures.app

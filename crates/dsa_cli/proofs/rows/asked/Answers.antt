@@ -224,15 +224,28 @@ returns-clause-no_seen_draw c asks =
 
 pub returns-clause-conform : goal.returns-clause-conform
 unfolding clap_on_literals
-returns-clause-conform c = (_, (refl, refl, inr (inr (inr (inr (inr (inl refl)))))), (refl, when_left_out refl))
+returns-clause-conform c = (_, (refl, refl, inr (inr (inr (inr (inr (inl refl)))))), (refl, when_left_out refl, when_left_out refl))
 
 pub returns-clause-conform_all : goal.returns-clause-conform_all
 unfolding clap_on_literals
-returns-clause-conform_all c = (_, (refl, refl, inr (inr (inr (inr (inr (inl refl)))))), (refl, when_given refl))
+returns-clause-conform_all c = (_, (refl, refl, inr (inr (inr (inr (inr (inl refl)))))), (refl, when_given refl, when_left_out refl))
+
+pub returns-clause-friendly : goal.returns-clause-friendly
+unfolding clap_on_literals
+returns-clause-friendly c =
+    (_, (refl, refl, inr (inr (inr (inr (inr (inl refl)))))), (refl, when_left_out refl, when_given refl))
 
 pub returns-clause-wide : goal.returns-clause-wide
 unfolding clap_on_literals
 returns-clause-wide c = (
+  _,
+  (refl, refl, inr (inr (inl refl))),
+  (refl, first_left_out refl (first_left_out refl (first_left_out refl (first_given refl))), when_left_out refl),
+)
+
+pub returns-clause-changes : goal.returns-clause-changes
+unfolding clap_on_literals
+returns-clause-changes c = (
   _,
   (refl, refl, inr (inr (inl refl))),
   (refl, first_left_out refl (first_left_out refl (first_given refl)), when_left_out refl),
@@ -255,7 +268,7 @@ unfolding clap_on_literals
 returns-clause-trace c = (
   _,
   (refl, refl, inr (inr (inl refl))),
-  (refl, first_left_out refl (first_left_out refl (first_left_out refl refl)), when_left_out refl),
+  (refl, first_left_out refl (first_left_out refl (first_left_out refl (first_left_out refl refl))), when_left_out refl),
 )
 
 pub returns-clause-seen_trace : goal.returns-clause-seen_trace
@@ -263,7 +276,7 @@ unfolding clap_on_literals
 returns-clause-seen_trace c = (
   _,
   (refl, refl, inr (inr (inl refl))),
-  (refl, first_left_out refl (first_left_out refl (first_left_out refl refl)), when_given refl),
+  (refl, first_left_out refl (first_left_out refl (first_left_out refl (first_left_out refl refl))), when_given refl),
 )
 
 pub returns-clause-json : goal.returns-clause-json

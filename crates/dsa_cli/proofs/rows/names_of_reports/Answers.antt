@@ -101,7 +101,7 @@ returns-clause-no_plain_check c asked = let same = asked.1.strict.given refl in 
 pub returns-clause-asks_trace : goal.returns-clause-asks_trace
 unfolding clap_on_literals
 returns-clause-asks_trace c =
-    (refl, first_left_out refl (first_left_out refl (first_left_out refl refl)), when_left_out refl)
+    (refl, first_left_out refl (first_left_out refl (first_left_out refl (first_left_out refl refl))), when_left_out refl)
 
 pub returns-clause-asks_chrome : goal.returns-clause-asks_chrome
 unfolding clap_on_literals
@@ -146,15 +146,28 @@ returns-clause-no_other_steps c asked =
 
 pub returns-clause-asks_conform : goal.returns-clause-asks_conform
 unfolding clap_on_literals
-returns-clause-asks_conform c = (refl, when_left_out refl)
+returns-clause-asks_conform c = (refl, when_left_out refl, when_left_out refl)
 
 pub returns-clause-asks_all : goal.returns-clause-asks_all
 unfolding clap_on_literals
-returns-clause-asks_all c = (refl, when_given refl)
+returns-clause-asks_all c = (refl, when_given refl, when_left_out refl)
+
+pub returns-clause-asks_friendly : goal.returns-clause-asks_friendly
+unfolding clap_on_literals
+returns-clause-asks_friendly c = (refl, when_left_out refl, when_given refl)
+
+pub returns-clause-no_friendly : goal.returns-clause-no_friendly
+unfolding clap_on_literals
+returns-clause-no_friendly c asked = let same = asked.2.left_out refl in cc
 
 pub returns-clause-asks_wide : goal.returns-clause-asks_wide
 unfolding clap_on_literals
 returns-clause-asks_wide c =
+    (refl, first_left_out refl (first_left_out refl (first_left_out refl (first_given refl))), when_left_out refl)
+
+pub returns-clause-asks_changes : goal.returns-clause-asks_changes
+unfolding clap_on_literals
+returns-clause-asks_changes c =
     (refl, first_left_out refl (first_left_out refl (first_given refl)), when_left_out refl)
 
 pub returns-clause-asks_seen : goal.returns-clause-asks_seen
@@ -181,5 +194,5 @@ returns-clause-no_table c asked = let same = (asked.1.left_out refl).given refl 
 pub returns-clause-other_form : goal.returns-clause-other_form
 unfolding clap_on_literals
 returns-clause-other_form c asked =
-    let same = ((asked.1.left_out refl).left_out refl).left_out refl in
+    let same = (((asked.1.left_out refl).left_out refl).left_out refl).left_out refl in
     cc

@@ -1,6 +1,4 @@
 use Rattle.dsa_cli.proofs.rows.reports_of_documents.Goals as goal
-use Rattle.dsa_chosen.proofs.Lines.{all-kept}
-use Rattle.dsa_scenario.specs.Steps.{standing}
 
 pub returns-clause-no_explanation : goal.returns-clause-no_explanation
 returns-clause-no_explanation c bytes text is = let same = is.0 in cc
@@ -18,22 +16,7 @@ pub returns-clause-check : goal.returns-clause-check
 returns-clause-check c bytes text is = is
 
 pub returns-clause-explanation : goal.returns-clause-explanation
-returns-clause-explanation c bytes text is =
-    let made = is.1.of_run in record {
-      caps = is.1.caps;
-      capacity = is.1.capacity;
-      actions = is.1.actions;
-      document = is.1.document;
-      opening = is.1.opening;
-      of_run = record {
-        records = made.records;
-        last = made.last;
-        of_actions = made.of_actions;
-        run = made.run;
-        replayed = made.replayed;
-        rendered = all-kept _ (standing is.1.caps is.1.capacity made.records) text made.rendered;
-      };
-    }
+returns-clause-explanation c bytes text is = is.1
 
 pub returns-clause-chosen : goal.returns-clause-chosen
 returns-clause-chosen c bytes text is = is.1
@@ -51,7 +34,7 @@ pub returns-clause-conformance : goal.returns-clause-conformance
 returns-clause-conformance c bytes text is = is
 
 pub returns-clause-no_seen_explanation : goal.returns-clause-no_seen_explanation
-returns-clause-no_seen_explanation c bytes text is = is.verdict
+returns-clause-no_seen_explanation c bytes text is = is.made.verdict
 
 pub returns-clause-seen_explanation : goal.returns-clause-seen_explanation
 returns-clause-seen_explanation c bytes text is = is
@@ -60,10 +43,13 @@ pub returns-clause-seen_trace : goal.returns-clause-seen_trace
 returns-clause-seen_trace c bytes text is = is
 
 pub returns-clause-seen_drawing : goal.returns-clause-seen_drawing
-returns-clause-seen_drawing c bytes text is = is
+returns-clause-seen_drawing c bytes text is = is.made
 
 pub returns-clause-no_chrome_trace : goal.returns-clause-no_chrome_trace
 returns-clause-no_chrome_trace c bytes text is = let same = is.0 in cc
 
 pub returns-clause-chrome_trace : goal.returns-clause-chrome_trace
 returns-clause-chrome_trace c bytes text is = is.1
+
+pub returns-clause-friendly : goal.returns-clause-friendly
+returns-clause-friendly c bytes text is = is

@@ -8,7 +8,7 @@ use Rattle.dsa_scenario.specs.declared.watched.WatchedWriter.{WatchedWriter}
 use Rattle.dsa_scenario.specs.Watched.{watched_contents}
 use Rattle.dsa_serve.{specs.Dialogue.{IsStopped}, proofs.Stops.{unread_memory}}
 use Rattle.dsa_cli.specs.{CommandLine.{AsksFor, IsAskedBy, wrong_value_text}, Endings.{IsRefusal}}
-use Rattle.dsa_cli.proofs.ReportCommands.{asks_high, asks_wrong, named, not_asked, same_found}
+use Rattle.dsa_cli.proofs.ReportCommands.{asks_high, asks_wrong, named, not_asked, other_name, same_found}
 use Rattle.dsa_cli.proofs.PlainRuns.{plain_written, plain_stopped}
 
 pub returns-in-Err-clause-mistake : goal.returns-in-Err-clause-mistake
@@ -76,7 +76,8 @@ returns-in-Ok-Report-clause-reports_failed g c one found named =
                 ],
                 λ e. (c.in-Ok-Report.report, by, none.0.2 e),
               ),
-              none.1,
+              (λ long. other_name found c.in-Ok-Report.report by (none.1 long)),
+              none.2,
             )
       ],
       told.2,
@@ -86,8 +87,11 @@ pub returns-in-Err-clause-reports_failed : goal.returns-in-Err-clause-reports_fa
 returns-in-Err-clause-reports_failed g c one found named =
     elim c.in-Err.ensures.faults [
       | inl memory ↦
-          let kept = c.show.ensures.memory memory in
-          (OutOfMemory, inr ((tt, λ other. inl kept.1, λ e. absurd cc), λ e. absurd cc), c.show.ensures.told memory)
+          let kept = c.show.ensures.memory memory in (
+            OutOfMemory,
+            inr ((tt, λ other. inl kept.1, λ e. absurd cc), (λ long. absurd cc), λ e. absurd cc),
+            c.show.ensures.told memory,
+          )
       | inr among ↦ absurd (subst (λ faults. IsAmong (kind_of c.in-Err.error) faults) named.0 among)
     ]
 
@@ -122,7 +126,7 @@ returns-in-Ok-Scenario-clause-done g c plain zero = plain_written _ _ _ _ (c.wri
 pub returns-in-Ok-Scenario-clause-failed : goal.returns-in-Ok-Scenario-clause-failed
 returns-in-Ok-Scenario-clause-failed g c plain one =
     let told = c.write_text.ensures.failed one in
-    let stopped = plain_stopped _ _ _ (watched_contents g.O.Write.contents) _ _ _ told.1 in
+    let stopped = plain_stopped _ _ _ (watched_contents g.O.Write.contents) _ _ _ _ told.1 in
     (told.0, stopped, told.2)
 
 pub returns-in-Ok-Report-clause-done : goal.returns-in-Ok-Report-clause-done

@@ -61,7 +61,12 @@ returns-clause-statuses g c = c.answer_words.ensures.statuses
 pub returns-clause-reports : goal.returns-clause-reports
 returns-clause-reports g c zero found named =
     let done = c.answer_words.ensures.reports zero found named in
-    search (rules, done)
+    elim done.2 [
+      | inl all ↦
+          let more = all.4 in
+          (done.0, done.1, inl (all.0, all.1, all.2, all.3, search (rules, more)))
+      | inr long ↦ let none = long.0 in absurd cc
+    ]
 
 pub returns-clause-reports_failed : goal.returns-clause-reports_failed
 returns-clause-reports_failed g c one found named =
@@ -69,27 +74,36 @@ returns-clause-reports_failed g c one found named =
       told.0,
       elim told.1 [
         | inl all ↦
-            let more = all.2.4 in
-            inl (all.0, all.1, (all.2.0, all.2.1, all.2.2, all.2.3, search (rules, more)))
+            elim all.2 [
+              | inl whole ↦
+                  let more = whole.4 in
+                  inl (all.0, all.1, inl (whole.0, whole.1, whole.2, whole.3, search (rules, more)))
+              | inr long ↦
+                  let more = long.1.3 in
+                  inl (all.0, all.1, inr (long.0, (long.1.0, long.1.1, long.1.2, search (rules, more))))
+            ]
         | inr none ↦
             let stopped = none.0 in
             inr (
-              stopped.0,
-              λ other. elim (stopped.1 other) [
-                | inl kept ↦
-                    let same : c.answer_words.new.out.writer.now ≡ c.args.out.now =
-                    ap (λ watched. watched.writer.now) kept ∙ c.new-out.ensures.writer in
-                    inl (search rules)
-                | inr rows ↦
-                    let begun = rows.1 in
-                    inr (
-                      rows.0,
-                      (begun.0, begun.1, begun_with begun.0 _ _ _ _ _ _ begun.2 (λ text more. search (rules, more))),
-                    )
-              ],
-              λ e.
-                  let cut = stopped.2 e in
-                  (cut.0, cut.1, cut_with cut.0 _ _ _ _ _ _ cut.2 (λ text more. search (rules, more))),
+              (
+                stopped.0,
+                λ other. elim (stopped.1 other) [
+                  | inl kept ↦
+                      let same : c.answer_words.new.out.writer.now ≡ c.args.out.now =
+                      ap (λ watched. watched.writer.now) kept ∙ c.new-out.ensures.writer in
+                      inl (search rules)
+                  | inr rows ↦
+                      let begun = rows.1 in
+                      inr (
+                        rows.0,
+                        (begun.0, begun.1, begun_with begun.0 _ _ _ _ _ _ begun.2 (λ text more. search (rules, more))),
+                      )
+                ],
+                λ e.
+                    let cut = stopped.2 e in
+                    (cut.0, cut.1, cut_with cut.0 _ _ _ _ _ _ cut.2 (λ text more. search (rules, more))),
+              ),
+              none.1,
             )
       ],
     )

@@ -1,13 +1,13 @@
 use Rattle.dsa_conform.proofs.alone.count_alone.Goals as goal
 use Rattle.std.proofs.Common.{refl}
 use Rattle.dsa_conform.specs.Seen.{seen_as}
-use Rattle.dsa_conform.proofs.{OwnAnswers.{alone_all, alone_on, alone_to}, Steps.{reads_item}}
+use Rattle.dsa_conform.proofs.{OwnAnswers.{alone_all, alone_on, alone_to}, Steps.{reads_value}}
 
 pub loop-i-init : goal.loop-i-init
 loop-i-init c = λ observed read. c.in_ok-way.ensures
 
 pub unreachable-requires : goal.unreachable-requires
-unreachable-requires c = reads_item c.args.head.now.steps.now c.requires.0 c.loop-i.i c.step-item.result
+unreachable-requires c = reads_value c.args.head.now.steps.now c.requires.0 c.loop-i.i c.step-item.result
     c.requires.1 c.loop-i-test.true c.step-item.is c.in_default.ensures
 
 pub loop-i-preserved : goal.loop-i-preserved

@@ -1,21 +1,24 @@
 use Rattle.dsa_conform.proofs.every.count_seen.Goals as goal
-use Rattle.std.proofs.Common.{refl, arith}
-use Rattle.dsa_conform.proofs.{Steps.{at_most, count_more, reads_item}, Striking.{counted_all}}
+use Rattle.std.proofs.Common.{refl, arith, map}
+use Rattle.serde_json.specs.View.{view}
+use Rattle.dsa_conform.proofs.{Objects.{at_item}, Steps.{at_most, count_more, reads_value}, Striking.{counted_all}}
 
 pub loop-step-init : goal.loop-step-init
 loop-step-init c = (c.requires.0, c.requires.1, refl, omega arith)
 
 pub unreachable-requires : goal.unreachable-requires
-unreachable-requires c = reads_item c.args.head.now.steps.now c.loop-step.invariant.0 c.loop-step.step-index
+unreachable-requires c = reads_value c.args.head.now.steps.now c.loop-step.invariant.0 c.loop-step.step-index
     c.step-item.result c.loop-step.invariant.1 c.loop-step-test.true c.step-item.is c.in_default.ensures
 
 pub loop-step-preserved : goal.loop-step-preserved
 loop-step-preserved c = (
   c.loop-step.invariant.0,
   c.loop-step.invariant.1,
-  count_more c.args.head.now.steps.now c.loop-step.invariant.0 c.loop-step.step-index c.step-item.result _
-      c.loop-step.answers c.count_more-more.result c.loop-step.invariant.1 c.loop-step-test.true c.step-item.is
-      c.in-Some.ensures c.count_more-more.ensures c.loop-step.invariant.2,
+  count_more (map view c.args.head.now.steps.now) c.loop-step.invariant.0 c.loop-step.step-index _
+      c.loop-step.answers c.count_more-more.result c.loop-step.invariant.1
+      (at_item c.args.head.now.steps.now c.loop-step.step-index c.step-item.result _ c.loop-step-test.true
+      c.step-item.is c.in-Some.ensures)
+      c.count_more-more.ensures c.loop-step.invariant.2,
   at_most _ c.loop-step.answers c.count_more-more.result c.loop-step.step-index c.count_more-more.ensures
       c.loop-step.invariant.3,
 )

@@ -1,7 +1,7 @@
 use Rattle.dsa_conform.proofs.retelling.retell.Goals as goal
 use Rattle.std.proofs.lemmas.Result.{IfOk-weaker}
 use Rattle.dsa_conform.specs.Seen.{seen_as}
-use Rattle.dsa_conform.proofs.Steps.{reads_item}
+use Rattle.dsa_conform.proofs.Steps.{reads_value}
 use Rattle.dsa_conform.proofs.ToldAgain.{page_none, told_on, told_text}
 
 pub loop-i-init : goal.loop-i-init
@@ -9,7 +9,7 @@ loop-i-init g c = λ observed read.
     page_none (g.D.RenderSteps.is_page c.args.what.now) _ _ _ _ _ c.in_ok-way.ensures c.open-page.ensures
 
 pub unreachable-requires : goal.unreachable-requires
-unreachable-requires g c = reads_item c.args.head.now.steps.now c.requires.0 c.loop-i.i c.step-item.result
+unreachable-requires g c = reads_value c.args.head.now.steps.now c.requires.0 c.loop-i.i c.step-item.result
     c.requires.1 c.loop-i-test.true c.step-item.is c.in_default.ensures
 
 pub loop-i-preserved : goal.loop-i-preserved

@@ -124,8 +124,9 @@ all_nothing =
 
 pub returns-clause-told : goal.returns-clause-told
 unfolding digits
-returns-clause-told c why allowed reason is = record {
+returns-clause-told c why fact allowed reason against is = record {
   why = reason;
+  against = against;
   all = subst (λ l. AreAllowed smallest_device_at_first (Ok event.Poll) l) (sym is) all_nothing;
   some = nothing;
   is_some = is_nothing;
@@ -136,6 +137,12 @@ pub returns-clause-other_reason : goal.returns-clause-other_reason
 unfolding digits
 returns-clause-other_reason c why allowed reason told =
     let none : true ≡ false = ap (bytes_eq (codes ": q1 is empty")) (sym reason ∙ told.why) in
+    absurd cc
+
+pub returns-clause-other_fact : goal.returns-clause-other_fact
+unfolding digits
+returns-clause-other_fact c why fact allowed against told =
+    let none : true ≡ false = ap (bytes_eq (codes "q1 is empty")) (sym against ∙ told.against) in
     absurd cc
 
 pub returns-clause-nothing_told : goal.returns-clause-nothing_told

@@ -17,7 +17,7 @@ unfolding digits
 returns-clause-told c = record {
   observed = polled_with (answered (codes "active"));
   read = refl;
-  first = codes "step 0: poll\nseen: active\nallowed: nothing: no command is active\n";
+  first = codes "step 0: poll\nseen: active\nagainst: no command is active\nallowed: nothing: no command is active\n";
   more = [];
   differ = (
     record { here = (Ask event.Poll, answered (codes "active")); at = refl; differs = poll_differs },

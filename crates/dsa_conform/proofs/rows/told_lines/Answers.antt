@@ -9,7 +9,7 @@ use Rattle.dsa_conform.specs.{Allowed.{queue_taken}, declared.told.{Line.{Line},
 use Rattle.dsa_conform.specs.Lines.{AreListed, allowed_line, difference_text}
 use Rattle.dsa_conform.specs.ToldLines.{AreLinesTold, HasText, IsLineOf, line_as}
 use Rattle.dsa_conform.proofs.RowWays.{to_one, to_two}
-use Rattle.dsa_conform.specs.Worked.{answered, from_first, from_second, line_of, told_allowing}
+use Rattle.dsa_conform.specs.Worked.{answered, from_first, from_second, line_of, told_against, told_allowing}
 use Rattle.dsa_conform.specs.Seen.{nothing_seen}
 
 -- a line from the first queue before one from the second
@@ -104,21 +104,21 @@ pub returns-clause-not_added : goal.returns-clause-not_added
 returns-clause-not_added c why allowed adds = (adds.here from_first (inl refl)).1
 
 -- the one line of the one device
-lines_of_first : (line why : String Global) (allowed : Vec Record Global) → allowed.items ≡ from_first ∷ []
+lines_of_first : (line why fact : String Global) (allowed : Vec Record Global) → allowed.items ≡ from_first ∷ []
     → string_bytes line ≡ codes "allowed: taken 0 from 0\n"
-    → AreLinesTold (told_allowing why allowed ∷ []) (line_of from_first line ∷ [])
+    → AreLinesTold (told_against why fact allowed ∷ []) (line_of from_first line ∷ [])
 unfolding digits
-lines_of_first line why allowed is text = record {
-  each = to_one (λ (l : Line). (told : Told) × In told (told_allowing why allowed ∷ []) × IsLineOf l told)
+lines_of_first line why fact allowed is text = record {
+  each = to_one (λ (l : Line). (told : Told) × In told (told_against why fact allowed ∷ []) × IsLineOf l told)
       (line_of from_first line) (
-        told_allowing why allowed,
+        told_against why fact allowed,
         inl refl,
         line_told from_first line why allowed (subst (λ l. In from_first l) (sym is) (inl refl)) text,
       );
   all = to_one
       (λ (told : Told). (entry : Record) → In entry told.allowed.items
       → HasText (line_of from_first line ∷ []) (allowed_line (string_bytes told.why) entry))
-      (told_allowing why allowed)
+      (told_against why fact allowed)
       (λ entry among. to_one
       (λ e. HasText (line_of from_first line ∷ []) (allowed_line (string_bytes why) e))
       from_first (line_of from_first line, inl refl, text) entry
@@ -128,11 +128,16 @@ lines_of_first line why allowed is text = record {
 
 pub returns-clause-text : goal.returns-clause-text
 unfolding digits
-returns-clause-text c line why allowed is text = record {
+returns-clause-text c line why fact allowed is text told = record {
   lines = line_of from_first line ∷ [];
-  of_told = lines_of_first line why allowed is text;
-  is = sym (ap (λ t. difference_text 17 (answered (codes "idle")) ((from_first, t) ∷ [])) text);
+  of_told = lines_of_first line why fact allowed is text;
+  is = sym (ap (λ t. difference_text 17 (answered (codes "idle")) (string_bytes fact) ((from_first, t) ∷ [])) text
+      ∙ ap (λ f. difference_text 17 (answered (codes "idle")) f
+      ((from_first, codes "allowed: taken 0 from 0\n") ∷ [])) told);
 }
+
+pub returns-clause-facts : goal.returns-clause-facts
+returns-clause-facts c why first second allowed = refl
 
 pub returns-clause-no_device : goal.returns-clause-no_device
 returns-clause-no_device c text are = (are.each (line_of from_first text) (inl refl)).1
@@ -148,7 +153,7 @@ returns-clause-left_out c why allowed is are =
     (are.all (told_allowing why allowed) (inl refl) from_first (subst (λ l. In from_first l) (sym is) (inl refl))).1
 
 -- a text with a line is of a device
-no_lines : (lines : List Line) → AreLinesTold [] lines → codes "a" ≡ difference_text 0 nothing_seen (map line_as lines) → ⊥
+no_lines : (lines : List Line) → AreLinesTold [] lines → codes "a" ≡ difference_text 0 nothing_seen [] (map line_as lines) → ⊥
 no_lines [] are is = absurd cc
 no_lines (line ∷ lines) are is = (are.each line (inl refl)).1
 

@@ -100,15 +100,15 @@ unfolding digits
 returns-clause-shown c is = is.none (nothing ∷ []) (poll_run (answered (codes "nothing")) refl)
 
 -- a text with a line is not empty
-not_empty : (lines : List (Record × List ℕ)) (line : Record × List ℕ) → In line lines
-    → [] ≡ difference_text 0 (answered (codes "active")) lines → ⊥
-not_empty [] line among told = absurd among
-not_empty (line ∷ lines) other among told = absurd cc
+not_empty : (fact : List ℕ) (lines : List (Record × List ℕ)) (line : Record × List ℕ) → In line lines
+    → [] ≡ difference_text 0 (answered (codes "active")) fact lines → ⊥
+not_empty fact [] line among told = absurd among
+not_empty fact (line ∷ lines) other among told = absurd cc
 
 pub returns-clause-untold : goal.returns-clause-untold
 returns-clause-untold c is =
     let line = is.told.all [] (record { of_actions = tt; run = refl; shown = tt }) nothing is_nothing in
-    not_empty is.lines line.0 line.1 is.is
+    not_empty is.fact is.lines line.0 line.1 is.is
 
 pub returns-clause-earlier : goal.returns-clause-earlier
 returns-clause-earlier c is = not_answered_so is.some is.run.of_actions is.run.shown

@@ -1,10 +1,9 @@
-use Rattle.std.proofs.Common.{map, take}
-use Rattle.serde_json.specs.View.{view}
-use Rattle.dsa_conform.specs.Ways.{AreAdded}
+use Rattle.std.proofs.Common.{take}
+use Rattle.dsa_conform.specs.{Sights.{steps_counted}, Ways.{AreAdded}}
 use Rattle.dsa_conform.proofs.ways.add_forks.Given as goal
 
 -- those of the queues before were added
 abbrev pub invariant-loop-queue : goal.invariant-loop-queue
 invariant-loop-queue l =
-    AreAdded l.head.caps l.head.capacity (map view l.head.steps.now) l.number l.choices (take l.queue-index l.queues)
+    AreAdded l.sights.head.now.caps l.sights.head.now.capacity (steps_counted l.sights) l.number l.choices (take l.queue-index l.queues)
     l.initial.ways.items l.ways.items

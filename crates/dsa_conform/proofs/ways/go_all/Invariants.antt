@@ -1,13 +1,12 @@
-use Rattle.std.proofs.Common.{map, length}
-use Rattle.serde_json.specs.View.{view}
-use Rattle.dsa_conform.specs.Seen.{seen_as}
+use Rattle.std.proofs.Common.{length}
+use Rattle.dsa_conform.specs.{Seen.{seen_as}, Sights.{steps_counted}}
 use Rattle.dsa_conform.proofs.Companions.{AreLeft}
 use Rattle.dsa_conform.proofs.ways.go_all.Given as goal
 
 -- those before have gone on
 abbrev pub invariant-loop-alloc : goal.invariant-loop-alloc
 invariant-loop-alloc l =
-    AreLeft l.head.caps l.head.capacity (map view l.head.steps.now) (l.action, seen_as l.seen) l.number
+    AreLeft l.sights.head.now.caps l.sights.head.now.capacity (steps_counted l.sights) (l.action, seen_as l.seen) l.number
     l.initial.old.items l.old.items l.ways.items l.tolds.items
 
 abbrev pub decreases-loop-alloc : goal.decreases-loop-alloc

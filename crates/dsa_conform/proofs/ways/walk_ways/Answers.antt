@@ -1,27 +1,26 @@
 use Rattle.dsa_conform.proofs.ways.walk_ways.Goals as goal
-use Rattle.std.proofs.Common.{◌∙◌, sym, subst, map, string_bytes, Vec, Global}
-use Rattle.serde_json.specs.View.{view}
+use Rattle.std.proofs.Common.{◌∙◌, sym, subst, string_bytes, Vec, Global}
 use Rattle.dsa_conform.specs.declared.way.Way.{Way}
-use Rattle.dsa_conform.specs.{Seen.{seen_as}, ToldLines.{IsTextTold}, Ways.{AreGoneOn}}
+use Rattle.dsa_conform.specs.{Seen.{seen_as}, Sights.{steps_counted}, ToldLines.{IsTextTold}, Ways.{AreGoneOn}}
 use Rattle.dsa_conform.proofs.Companions.{step_on, step_differs}
 
 pub returns-then-not-is_empty : goal.returns-then-not-is_empty
 returns-then-not-is_empty c =
-    let steps = map view c.args.head.now.steps.now in
-    step_on c.args.head.now.caps c.args.head.now.capacity steps (c.args.action, seen_as c.args.seen.now) c.args.number
+    let steps = steps_counted c.args.sights.now in
+    step_on c.args.sights.now.head.now.caps c.args.sights.now.head.now.capacity steps (c.args.action, seen_as c.args.seen.now) c.args.number
     c.args.ways.now.items c.go_all.new.ways.items c.in_ok-tolds.tolds.items
-    (subst (λ (old : Vec Way Global). AreGoneOn c.args.head.now.caps c.args.head.now.capacity steps
+    (subst (λ (old : Vec Way Global). AreGoneOn c.args.sights.now.head.now.caps c.args.sights.now.head.now.capacity steps
     (c.args.action, seen_as c.args.seen.now) c.args.number old.items c.go_all.new.ways.items
     c.in_ok-tolds.tolds.items) c.replace-old.ensures.value c.in_ok-tolds.ensures)
     (rw c.as_slice.ensures.value at (sym c.is_empty.ensures ∙ c.if-not-is_empty.true))
 
 pub returns : goal.returns
 returns c =
-    let steps = map view c.args.head.now.steps.now in
-    step_differs c.args.head.now.caps c.args.head.now.capacity steps (c.args.action, seen_as c.args.seen.now)
+    let steps = steps_counted c.args.sights.now in
+    step_differs c.args.sights.now.head.now.caps c.args.sights.now.head.now.capacity steps (c.args.action, seen_as c.args.seen.now)
     c.args.number c.args.ways.now.items c.go_all.new.ways.items c.in_ok-tolds.tolds.items
     (string_bytes c.in_ok-text.text)
-    (subst (λ (old : Vec Way Global). AreGoneOn c.args.head.now.caps c.args.head.now.capacity steps
+    (subst (λ (old : Vec Way Global). AreGoneOn c.args.sights.now.head.now.caps c.args.sights.now.head.now.capacity steps
     (c.args.action, seen_as c.args.seen.now) c.args.number old.items c.go_all.new.ways.items
     c.in_ok-tolds.tolds.items) c.replace-old.ensures.value c.in_ok-tolds.ensures)
     (rw c.as_slice.ensures.value at (sym c.is_empty.ensures ∙ c.if-not-is_empty.false))

@@ -7,14 +7,29 @@ use Rattle.dsa_draw.specs.Ranges.{all_steps}
 use Rattle.dsa_draw.specs.Drawings.{AreMoments, drawing_text, extent_of, shown_of, story_bands_text, story_engines_text}
 use Rattle.dsa_draw.specs.{Drawings.{story_height}, Moments.{IsMomentOf}, Pages.{foot_text, head_text, legend_text}}
 use Rattle.dsa_draw.specs.{Columns.{columns_text}, Rows.{rows_above_text}}
-use Rattle.dsa_draw.specs.Worked.{device_of_a_drawing, drawn_on_literals, idle_step, moment_of_a_device}
-use Rattle.dsa_draw.specs.Worked.{story_of_a_device}
+use Rattle.dsa_draw.specs.Worked.{device_with_an_empty_queue, drawn_on_literals, idle_step, moment_of_a_device}
+use Rattle.dsa_draw.specs.Worked.{of_an_empty_queue, step_of_a_device, story_of_a_device}
+use Rattle.dsa_scenario.specs.Run.{answered_by}
+use Rattle.dsa_explain_lines.specs.Parts.{part_of}
 
-is_moment : (memory : Global) → IsMomentOf 3 device_of_a_drawing (idle_step 1) (moment_of_a_device memory)
-is_moment memory = record { number = refl; of_entry = refl; phase = refl; queues = refl; groups = refl; batch = refl; desc = refl; ended = refl }
+is_moment : (memory : Global) → IsMomentOf step_of_a_device (moment_of_a_device memory)
+unfolding drawn_on_literals
+is_moment memory = record {
+  number = refl;
+  of_entry = refl;
+  reason = refl;
+  note = refl;
+  phase = refl;
+  queues = refl;
+  groups = refl;
+  batch = refl;
+  desc = refl;
+  own = refl;
+  ended = refl;
+}
 
 counts_differ : (memory : Global)
-    → IsMomentOf 3 device_of_a_drawing (idle_step 1) (record (moment_of_a_device memory) { ended = 1 }) → ⊥
+    → IsMomentOf step_of_a_device (record (moment_of_a_device memory) { ended = 1 }) → ⊥
 counts_differ memory is = omega (arith, is.ended)
 
 -- the number of columns is in the page's width
@@ -43,6 +58,26 @@ returns-clause-moment c memory = is_moment memory
 pub returns-clause-other_number : goal.returns-clause-other_number
 returns-clause-other_number c memory is = omega (arith, is.number)
 
+-- what the device says before the step
+why_idle : part_of device_with_an_empty_queue (answered_by (idle_step 1)) ≡ of_an_empty_queue
+unfolding drawn_on_literals
+why_idle = refl
+
+pub returns-clause-no_reason : goal.returns-clause-no_reason
+returns-clause-no_reason c memory is =
+    let same : 0 ≡ 13 = ap length (is.reason ∙ why_idle) in
+    omega (arith, same)
+
+pub returns-clause-reason_after : goal.returns-clause-reason_after
+returns-clause-reason_after c memory is =
+    let same : 19 ≡ 13 = ap length (is.reason ∙ why_idle) in
+    omega (arith, same)
+
+pub returns-clause-reason_of_a_poll : goal.returns-clause-reason_of_a_poll
+returns-clause-reason_of_a_poll c memory is =
+    let same : 22 ≡ 13 = ap length (is.reason ∙ why_idle) in
+    omega (arith, same)
+
 pub returns-clause-other_phase : goal.returns-clause-other_phase
 returns-clause-other_phase c memory is = grind (arith, is.phase)
 
@@ -65,6 +100,36 @@ returns-clause-other_descriptor c memory is = grind (arith, is.desc)
 
 pub returns-clause-other_count : goal.returns-clause-other_count
 returns-clause-other_count c memory is = counts_differ memory is
+
+pub returns-clause-named : goal.returns-clause-named
+unfolding drawn_on_literals
+returns-clause-named c memory = record {
+  number = refl;
+  of_entry = refl;
+  reason = refl;
+  note = refl;
+  phase = refl;
+  queues = refl;
+  groups = refl;
+  batch = refl;
+  desc = refl;
+  own = refl;
+  ended = refl;
+}
+
+pub returns-clause-no_note : goal.returns-clause-no_note
+unfolding drawn_on_literals
+returns-clause-no_note c memory is = omega (arith, ap length is.note)
+
+pub returns-clause-other_note : goal.returns-clause-other_note
+unfolding drawn_on_literals
+returns-clause-other_note c memory is = omega (arith, ap length is.note)
+
+pub returns-clause-no_own_name : goal.returns-clause-no_own_name
+returns-clause-no_own_name c memory is = grind (arith, is.own)
+
+pub returns-clause-other_names : goal.returns-clause-other_names
+returns-clause-other_names c memory is = grind (arith, is.own)
 
 pub returns-clause-moments : goal.returns-clause-moments
 returns-clause-moments c memory = (is_moment memory, tt)

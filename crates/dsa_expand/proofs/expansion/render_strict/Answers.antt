@@ -1,8 +1,8 @@
 use Rattle.dsa_expand.proofs.expansion.render_strict.Goals as goal
-use Rattle.std.proofs.Common.{map, string_bytes, arith}
+use Rattle.std.proofs.Common.{map, arith}
 use Rattle.serde_json.specs.View.{view}
 use Rattle.dsa_expand.specs.Members.{pairs_of_step}
-use Rattle.dsa_expand.proofs.{Walked.{expanded_by}, Whole.{told_device, told_stuck, told_long, form_of}}
+use Rattle.dsa_expand.proofs.{Walked.{expanded_by}, Whole.{told_device, told_stuck, told_long, form_of, steps_flat}}
 
 pub returns-in-Some-clause-ok : goal.returns-in-Some-clause-ok
 returns-in-Some-clause-ok c =
@@ -42,3 +42,13 @@ returns-in-Err-clause-ok c =
     told_device c.args.bytes.now (view c.args.document.now) c.args.head.now.caps c.args.head.now.capacity
     c.args.head.now.steps.now c.requires.json c.requires.head _ _ c.in-Err.fault told.0 told.1 c.in-Err.ensures.fault
     told.2
+
+pub told_of_device-requires : goal.told_of_device-requires
+told_of_device-requires c =
+    steps_flat c.args.bytes.now (view c.args.document.now) c.args.head.now.caps c.args.head.now.capacity
+    c.args.head.now.steps.now c.requires.json c.requires.head
+
+pub walk_steps-requires : goal.walk_steps-requires
+walk_steps-requires c =
+    steps_flat c.args.bytes.now (view c.args.document.now) c.args.head.now.caps c.args.head.now.capacity
+    c.args.head.now.steps.now c.requires.json c.requires.head

@@ -1,6 +1,5 @@
 use Rattle.dsa_expand.proofs.values.set_of.Goals as goal
 use Rattle.std.proofs.Common.{arith}
-use Rattle.dsa_expand.specs.Values.{set_of}
 use Rattle.dsa_expand.proofs.Sets.{set_more, set_small}
 
 pub loop-number-preserved : goal.loop-number-preserved

@@ -10,10 +10,10 @@ use Rattle.dsa_device.specs.Running.{Running, running_at_first, IsReplay}
 use Rattle.dsa_scenario.specs.{Lines.{line_of_text}, Steps.{visits}}
 use Rattle.dsa_scenario.specs.Worked.{smallest_caps, no_caps_text, document_text}
 use Rattle.dsa_serve.proofs.Sessions.{new_session, taken}
-use Rattle.dsa_serve.specs.Requests.{Request, Ready}
+use Rattle.dsa_serve.specs.Requests.{Request, Fault, Ready}
 use Rattle.dsa_serve.specs.{Answers.{answers}, Input.{IsLine}}
-use Rattle.dsa_serve.specs.{Dialogue.{from_document, IsServing}, Worked.{first_line, not_json}}
-use Rattle.dsa_serve.proofs.RowLines.{no_lines, no_feed_behind, one_division}
+use Rattle.dsa_serve.specs.{Dialogue.{from_document, IsServing}, Worked.{first_line}}
+use Rattle.dsa_serve.proofs.RowLines.{apart_at, no_lines, no_feed_behind, one_division}
 use Rattle.dsa_serve.proofs.RowDialogues.{bare_document, parts_are, no_document, bare_parts, opening_is, nothing_behind}
 use Rattle.dsa_serve.specs.declared.ending.Inside.TheVariants.{Brackets}
 use Rattle.dsa_serve.proofs.{Ends.{line_no_end}, RowDialogues.{no_request, one_fault}}
@@ -104,9 +104,9 @@ returns-clause-line_without_its_answer c number now tickets told kept is =
     let line = one_line is.lines is.rest is.lines_are.joined is.lines_are.each is.lines_are.last in
     let one = one_fault [] is.requests (lit≤ tt) refl (rw line at is.asked) in
     let answer = answers_are (first_line []) (codes "\n") (codes "ready 0\n") number now tickets told kept is
-    (Ready 0 ∷ not_json ∷ [])
-    (rw (bare_parts is.caps is.capacity is.observed is.document).1 (ap (λ rs. Ready 0 ∷ rs) one)) in
-    absurd (omega (arith, ap length answer))
+    (Ready 0 ∷ Fault one.0 ∷ [])
+    (rw (bare_parts is.caps is.capacity is.observed is.document).1 (ap (λ rs. Ready 0 ∷ rs) one.2)) in
+    absurd (apart_at 8 0 102 (codes "ready 0\n") _ refl refl (λ same. omega (arith, same)) answer)
 
 -- bytes without a line feed are the rest of a line
 only_rest : (behind : List ℕ) (lines : List (List ℕ)) (rest : List ℕ) → IsLine behind

@@ -14,7 +14,7 @@ use Rattle.dsa_scenario.specs.Worked.{caps_of_a_run, actions_of_a_run, records_o
 use Rattle.dsa_device.specs.Running.{running_at_first}
 use Rattle.dsa_serve.specs.Requests.{Explain}
 use Rattle.dsa_serve.specs.{Input.{IsLine, AreLines, HasFirst}, Dialogue.{IsDialogue, AnswersWhole, AnswersAll}}
-use Rattle.dsa_serve.specs.Worked.{poll_line, explained_poll_line, first_line, not_json, unseen}
+use Rattle.dsa_serve.specs.Worked.{answers_to_a_brace, poll_line, explained_poll_line, first_line, not_json, unseen}
 use Rattle.dsa_serve.proofs.RowDialogues.{bare_document, poll_document, open_brace, nothing_behind}
 use Rattle.dsa_serve.proofs.RowDialogues.{asks_no_json, asks_explained_poll, dialogue_by, bare_dialogue, all_unseen}
 
@@ -47,14 +47,14 @@ one_line = record {
 no_line : AreLines (codes "{") [] (codes "{")
 no_line = record { joined = refl; each = All-nil IsLine; last = open_brace }
 
-dialogue : IsDialogue (first_line []) (codes "{" ∷ []) (opening smallest_caps) (codes "ready 0\nfault not JSON\n")
+dialogue : IsDialogue (first_line []) (codes "{" ∷ []) (opening smallest_caps) (answers_to_a_brace)
 unfolding digits
 dialogue = dialogue_by (first_line []) (codes "{" ∷ []) [] (not_json ∷ []) [] bare_document
     (asks_no_json, tt) tt refl refl tt
 
 -- what answers the whole lines of such an input, and what answers all of them
 whole_of : (behind rest : List ℕ) → AreLines behind (codes "{" ∷ []) rest
-    → AnswersWhole false (line_of_text (first_line []) ++ behind) (codes "ready 0\nfault not JSON\n")
+    → AnswersWhole false (line_of_text (first_line []) ++ behind) (answers_to_a_brace)
 whole_of behind rest lines_are = record {
   first = first_line [];
   behind = behind;
@@ -66,7 +66,7 @@ whole_of behind rest lines_are = record {
   dialogue = dialogue;
 }
 
-all_of : AnswersAll (line_of_text (first_line []) ++ codes "{") (codes "ready 0\nfault not JSON\n")
+all_of : AnswersAll (line_of_text (first_line []) ++ codes "{") (answers_to_a_brace)
 all_of = record {
   without_feed = false;
   first = first_line [];
@@ -76,7 +76,7 @@ all_of = record {
     lines = [];
     rest = codes "{";
     last = opening smallest_caps;
-    answered = codes "ready 0\nfault not JSON\n";
+    answered = answers_to_a_brace;
     lines_are = no_line;
     dialogue = dialogue;
     with_fates = refl;
@@ -97,7 +97,7 @@ returns-clause-all c = all_of
 pub returns-clause-write : goal.returns-clause-write
 returns-clause-write c = (
   line_of_text (first_line []) ++ codes "{\n{",
-  codes "ready 0\nfault not JSON\n",
+  answers_to_a_brace,
   5,
   refl,
   inl (whole_of (codes "{\n{") (codes "{") one_line),
@@ -108,7 +108,7 @@ returns-clause-write c = (
 pub returns-clause-write_at_the_end : goal.returns-clause-write_at_the_end
 returns-clause-write_at_the_end c = (
   line_of_text (first_line []) ++ codes "{",
-  codes "ready 0\nfault not JSON\n",
+  answers_to_a_brace,
   5,
   refl,
   inr (inr (refl, all_of)),
@@ -127,7 +127,7 @@ pub returns-clause-memory : goal.returns-clause-memory
 returns-clause-memory c rest long = (
   line_of_text (first_line []) ++ codes "{\n",
   10 ∷ rest,
-  codes "ready 0\nfault not JSON\n",
+  answers_to_a_brace,
   sym (append-nil ((line_of_text (first_line []) ++ codes "{\n") ++ 10 ∷ rest)),
   omega (arith, long),
   inl (inr (whole_of (codes "{\n") [] line_alone)),

@@ -3,7 +3,6 @@ use Rattle.dsa_book.specs.declared.answer.Reply.TheVariants as reply
 use Rattle.std.proofs.Common.{◌≡◌, ◌≢◌, ◌∙◌, ◌++◌, ◌&&◌, ℕ, true, false, List, [], ◌∷◌, All, Option, Some, None, map}
 use Rattle.std.proofs.Common.{codes, refl, ap}
 use Rattle.std.proofs.Common.{arith, flat_map, length, length-append, length-take, append_assoc, subst, sym, inl, inr}
-use Rattle.std.proofs.Common.{lit≤}
 use Rattle.std.specs.{Option.{is_some}, Fmt.{digits}}
 use Rattle.std.proofs.lemmas.{Bool.{and_parts, false≢true}, List.{append_cancel_right, Elements.{All-nil, All-cons}}}
 use Rattle.serde_json.proofs.OnLiterals.{serde_json_on_literals}
@@ -23,9 +22,9 @@ use Rattle.dsa_serve.specs.Requests.{Request, Step, Ready, actions_of}
 use Rattle.dsa_serve.specs.Answers.{answers}
 use Rattle.dsa_serve.specs.Input.{IsLine, with_rest}
 use Rattle.dsa_serve.specs.Dialogue.{from_document, IsDialogue, AnswersWhole}
-use Rattle.dsa_serve.specs.Worked.{first_line, not_json, poll_line, unseen}
-use Rattle.dsa_serve.proofs.{Ends.{one_document}, RowLines.{no_lines, one_division}}
-use Rattle.dsa_serve.proofs.RowDialogues.{parts_are, no_document, bare_parts, open_brace, no_request, one_fault}
+use Rattle.dsa_serve.specs.Worked.{first_line, not_utf8, poll_line, unseen}
+use Rattle.dsa_serve.proofs.{Ends.{one_document}, RowLines.{line_by_test, no_lines, one_division}}
+use Rattle.dsa_serve.proofs.RowDialogues.{parts_are, no_document, bare_parts, open_brace, no_request, odd_byte}
 
 pub returns-clause-no_document : goal.returns-clause-no_document
 unfolding serde_json_on_literals
@@ -84,14 +83,14 @@ returns-clause-one_end c output h =
     let whole = subst (λ ls. IsDialogue (first_line []) ls h.last h.answered) parts.0 rest in
     rw (output_is h.last h.answered whole, state_is h.last h.answered whole) at h.with_fates
 
--- and one that is no JSON
-answer_is : (last : State) (output : List ℕ) → IsDialogue (first_line []) (codes "{" ∷ []) last output
-    → output ≡ codes "ready 0\nfault not JSON\n"
-unfolding serde_json_on_literals digits
+-- and one that is no UTF-8
+answer_is : (last : State) (output : List ℕ) → IsDialogue (first_line []) ((255 ∷ []) ∷ []) last output
+    → output ≡ codes "ready 0\nfault not JSON: column 1: the bytes are no UTF-8\n"
+unfolding digits
 answer_is last output is =
-    let requests : from_document is.observed is.requests ≡ Ready 0 ∷ not_json ∷ [] =
+    let requests : from_document is.observed is.requests ≡ Ready 0 ∷ not_utf8 ∷ [] =
     rw (bare_parts is.caps is.capacity is.observed is.document).1
-    (ap (λ rs. Ready 0 ∷ rs) (one_fault (codes "{") is.requests (lit≤ tt) refl is.asked)) in
+    (ap (λ rs. Ready 0 ∷ rs) (odd_byte is.requests is.asked)) in
     is.answered
     ∙ ap (λ rs. answers (running_at_first is.caps is.capacity) 0 rs (visits is.caps is.capacity [] is.records)) requests
 
@@ -193,11 +192,12 @@ whole_is behind lines rest input output each line is e h =
 
 pub returns-clause-cut : goal.returns-clause-cut
 returns-clause-cut c text is =
-    let input = append_cancel_right (line_of_text (first_line []) ++ codes "{\n") is.0 (codes "1") is.3 in
+    let input = append_cancel_right (line_of_text (first_line []) ++ 255 ∷ codes "\n") is.0 (codes "1") is.3 in
     elim is.4 [
       | inl whole ↦
-          let it = whole_is (codes "{\n") (codes "{" ∷ []) [] is.0 is.1
-          (All-cons IsLine (codes "{") [] open_brace (All-nil IsLine)) (All-nil (λ byte. byte ≢ 10)) refl input whole in
+          let it = whole_is (255 ∷ codes "\n") ((255 ∷ []) ∷ []) [] is.0 is.1
+          (All-cons IsLine (255 ∷ []) [] (line_by_test (255 ∷ []) refl) (All-nil IsLine))
+          (All-nil (λ byte. byte ≢ 10)) refl input whole in
           let answer = answer_is it.0 is.1 it.1 in
           omega (arith, is.5, ap length answer, ap length is.6, length-take is.2 is.1)
       | inr (inl only) ↦ (let left = only.0 in absurd cc)

@@ -1,6 +1,7 @@
 use Rattle.dsa_serve.proofs.rows.reasons_of_lines.Goals as goal
 use Rattle.std.proofs.Common.{[], refl}
 use Rattle.dsa_scenario.specs.Worked.{digits_on_literals}
+use Rattle.dsa_serve.specs.Worked.{flaw_of_a_brace}
 use Rattle.dsa_serve.proofs.RowLines.{json_apart}
 use Rattle.dsa_check.proofs.OneObject.{null_texts, no_kind_texts, command_texts, no_step_texts}
 
@@ -14,7 +15,7 @@ returns c = record {
   explained = (refl, (_, no_kind_texts, refl));
   explained_null = (refl, (_, null_texts, refl));
   seen = (refl, (_, ([], tt, refl), refl));
-  other_word = λ is. json_apart is.1.0 is.1.2;
+  other_word = λ is. json_apart flaw_of_a_brace is.1.0 is.1.2;
   step = λ why is. let none = is.0 in absurd cc;
   other_step = λ is. absurd cc;
 }

@@ -17,6 +17,17 @@ returns-clause-poll c = record {
   of_run = record { records = polled; last = _; of_actions = (refl, tt); run = refl; replayed = refl; rendered = refl };
 }
 
+pub returns-clause-poll_changes_nothing : goal.returns-clause-poll_changes_nothing
+unfolding serde_json_on_literals digits_on_literals
+returns-clause-poll_changes_nothing c = record {
+  caps = smallest_caps;
+  capacity = 9;
+  actions = Ask event.Poll ∷ [];
+  document = document_by poll_text _ smallest_caps 9 _ _ (poll_text, (refl, refl)) refl refl refl;
+  opening = record { good = refl; small = lit≤ tt };
+  of_run = record { records = polled; last = _; of_actions = (refl, tt); run = refl; replayed = refl; rendered = refl };
+}
+
 pub returns-clause-no_steps : goal.returns-clause-no_steps
 unfolding serde_json_on_literals
 returns-clause-no_steps c =

@@ -1,0 +1,4 @@
+pub mod Names
+pub mod Notes
+pub mod Steps
+pub mod Worked

@@ -1,0 +1,3 @@
+pub mod Mentioned
+pub mod Nameless
+pub mod Told

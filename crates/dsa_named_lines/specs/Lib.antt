@@ -1,0 +1,4 @@
+pub mod Awaited
+pub mod Lines
+pub mod Run
+pub mod Worked

@@ -1,0 +1,3 @@
+pub mod Ends
+pub mod Pages
+pub mod Streams

@@ -1,0 +1,5 @@
+pub mod Written
+pub mod Equal
+pub mod Making
+pub mod Loaded
+pub mod Faulty

@@ -1,0 +1,6 @@
+pub mod Words
+pub mod Format
+pub mod Said
+pub mod Saved
+pub mod Steps
+pub mod Faults

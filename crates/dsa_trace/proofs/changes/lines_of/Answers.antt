@@ -1,0 +1,5 @@
+use Rattle.dsa_trace.proofs.changes.lines_of.Goals as goal
+use Rattle.std.proofs.lemmas.Iterator.{Consumers.{map_from_collect}, Splits.{YieldsList-from_lines}}
+
+pub returns : goal.returns
+returns c = map_from_collect _ c.collect.ensures.ran (YieldsList-from_lines c.args.text.now c.lines.ensures.rest)

@@ -1,0 +1,1 @@
+"""An independent model of the device in Python, for comparing. docs/MODEL.md has its rules."""
