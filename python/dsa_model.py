@@ -70,6 +70,18 @@ class OpenError(DsaError):
         self.result = result
 
 
+class NotSaved(DsaError):
+    """The device is not saved, since its history began anew."""
+
+
+class LoadError(DsaError):
+    """No device was loaded; `result`, a LoadResult, has the number and the name of the fault."""
+
+    def __init__(self, result: LoadResult) -> None:
+        super().__init__(f"no device was loaded: {result.value} {result.name}")
+        self.result = result
+
+
 # ---- numbers with names, as in the header ----
 
 # The kinds of answers; the properties of Answer say which kinds have which numbers.
@@ -88,10 +100,37 @@ Portal = IntEnum("Portal", "LIMITED UNLIMITED", start=0)
 Outcome = IntEnum("Outcome", "SUCCESS PAGE_FAULT", start=0)
 Phase = IntEnum("Phase", "OFF ON STOPPING", start=0)
 EndingKind = IntEnum("EndingKind", "NOT_ENDED COMPLETED ABORTED BEHIND_FENCE", start=0)
-OpenResult = IntEnum("OpenResult", "OPENED BAD_CAPS BAD_CAPACITY BAD_STORE OUT_OF_MEMORY "
-                     "ALREADY_OPEN", start=0)
+OpenResult = IntEnum("OpenResult", {
+    "OPENED": 0, "BAD_CAPACITY": 2, "BAD_STORE": 3, "OUT_OF_MEMORY": 4, "ALREADY_OPEN": 5,
+    "BAD_QUEUES": 6, "BAD_GROUPS": 7, "BAD_ENGINES": 8, "BAD_TOTAL_SIZE": 9, "BAD_READ_BUFFERS": 10,
+    "BAD_SLOTS": 11, "BAD_MAX_BATCH_SHIFT": 12, "BAD_MAX_XFER_SHIFT": 13})
+LoadResult = IntEnum("LoadResult", "LOADED TRUNCATED BAD_MAGIC BAD_VERSION BAD_LENGTH BAD_CHECKSUM "
+                     "BAD_CAPS BAD_CAPACITY OUT_OF_MEMORY BAD_EVENT BAD_STEP ALREADY_OPEN", start=0)
+AnewResult = IntEnum("AnewResult", "BEGUN NO_DEVICE NO_MEMORY", start=0)
 Command = IntEnum("Command", "ENABLE_DEVICE DISABLE_DEVICE DRAIN_ALL ABORT_ALL RESET_DEVICE "
                   "ENABLE_WQ DISABLE_WQ DRAIN_WQ ABORT_WQ RESET_WQ DRAIN_PASID ABORT_PASID")
+# The kinds of reasons; the header says which fields each has.
+ReasonKind = IntEnum("ReasonKind", "NONE HISTORY_FULL NAMES_SHORT NO_SUCH_QUEUE NO_SUCH_ENGINE "
+                      "QUEUE_NOT_ON QUEUE_DEDICATED QUEUE_SHARED PORTAL_AT_LIMIT "
+                      "ENGINE_IDLE ENGINE_WITHOUT_GROUP ENGINE_WITHOUT_QUEUE "
+                      "QUEUE_EMPTY NO_SLOT FRONT_LACKS_BUFFERS OTHER_BATCH "
+                      "OTHER_DRAIN NO_BATCH ALL_FETCHED BATCH_CLOSED NO_MEMBER "
+                      "FENCE_WAITS FENCE_FAILED FENCE_FAILED_FORGOTTEN "
+                      "MEMBER_LACKS_BUFFERS CELL_EMPTY CELL_OF_OTHER ELSEWHERE "
+                      "NOT_STARTED MEMBERS_LEFT STILL_TO_FETCH DRAIN_WAITS COMPLETED "
+                      "ABORTED ABANDONED NO_SUCH_NAME NOT_SUPPORTED FENCE_OUTSIDE "
+                      "SIZE_OUTSIDE COUNT_OUTSIDE MEMBERS_FAILED "
+                      "MEMBERS_FAILED_FORGOTTEN PAGE_FAULT COMMAND_ACTIVE "
+                      "COMMAND_OVER NO_QUEUE_NAMED WRONG_QUEUE_PHASE "
+                      "WRONG_DEVICE_PHASE WOULD_REMOVE WOULD_WAIT NO_COMMAND "
+                      "COMMAND_WAITS NOTHING_NOTED GROUP_NAMES_NO_QUEUE "
+                      "GROUP_NAMES_NO_ENGINE SIZES_TOO_LARGE QUEUE_IN_TWO_GROUPS "
+                      "ENGINE_IN_TWO_GROUPS RESERVED_TOO_MANY ALLOWED_BELOW_RESERVED "
+                      "ALLOWED_ABOVE_REST ALLOWED_BELOW_NEED GROUP_WITHOUT_ENGINE "
+                      "GROUP_WITHOUT_QUEUE SIZE_ZERO PRIORITY_ZERO PRIORITY_TOO_LARGE "
+                      "THRESHOLD_ZERO THRESHOLD_ABOVE_SIZE BATCH_TOO_LARGE "
+                      "TRANSFER_TOO_LARGE QUEUE_WITHOUT_GROUP", start=0)
+ListKind = IntEnum("ListKind", "NONE QUEUE ENGINE BATCH", start=0)
 EventKind = IntEnum("EventKind", "ENQCMD MOVDIR64B DISPATCH FETCH START FINISH COMMAND POLL "
                     "WRITE_QUEUE WRITE_GROUP CLEAR_ERROR")
 
@@ -241,6 +280,14 @@ Event = NamedTuple("Event", [
 Batch = NamedTuple("Batch", [("name", int), ("count", int), ("fetched", int), ("failed", bool),
                              ("closed", bool)])
 
+# Why `step` would answer an event as it would: a kind, and its numbers; the others are 0.
+Reason = NamedTuple("Reason", [
+    ("kind", ReasonKind), ("queue", int), ("group", int), ("engine", int), ("list", ListKind),
+    ("name", int), ("other", int), ("count", int), ("limit", int), ("needed", int),
+    ("in_use", int), ("buffers", int), ("kept", int), ("phase", int), ("device_phase", int),
+    ("portal", int), ("command", int), ("operand", int), ("operation", int), ("status", int),
+    ("shift", int)])
+
 # ---- descriptors and command words ----
 
 
@@ -288,6 +335,8 @@ _TYPES: Dict[str, Tuple[int, Any, str]] = {
     "D": (512, ctypes.c_uint8 * 64, "uint8_t [64]"), "void": (0, None, "void"),
     "char*": (0, ctypes.c_char_p, "char *"),
     "I*": (0, ctypes.POINTER(ctypes.c_uint32), "uint32_t *"),
+    "B*": (0, ctypes.POINTER(ctypes.c_uint8), "uint8_t *"),
+    "bytes*": (0, ctypes.c_char_p, "const uint8_t *"),
 }
 
 # The structs of the header, each with its fields and their types.
@@ -299,6 +348,7 @@ _LAYOUTS: Dict[str, Tuple[Any, str]] = {
     "dsa_group": (Group, "QQHH"), "dsa_limits": (Limits, "BB"), "dsa_answer": (Answer, "IIII"),
     "dsa_ending": (Ending, "IIII"), "dsa_entry": (Entry, "IIIIIIHBB"),
     "dsa_batch": (Batch, "IIIBB"), "dsa_event": (Event, "IIIIIIIIHHHHBBBB"),
+    "dsa_reason": (Reason, "I" * 21),
 }
 _STRUCTS: Dict[str, Any] = {
     name: type(name, (ctypes.Structure,),
@@ -320,15 +370,16 @@ _HEADER = {
         history_answer(read position:Q)""",
     "dsa_ending": "fate_at(read position:Q) fate_of(read name:I)",
     "Q": """capacity(read) occupancy(read queue:H) used(read group:H) held(read)
-        next_name(read) active(read) awaited(read) history_length(read)
-        fates_length(read) phase(read) queue_phase(read queue:H)
+        next_name(read) awaited(read) history_length(read) fates_length(read)
         in_progress(read engine:H) members(read engine:H) size(caps:dsa_caps capacity:Q)
-        awaited_names(read names:I* count:Q) why(read event:dsa_event buffer:char* size:Q)""",
-    "I": """open(handle caps:dsa_caps capacity:Q) cell_count(caps:dsa_caps)
+        awaited_names(read names:I* count:Q) why(read event:dsa_event buffer:char* size:Q)
+        room(read) saved_size(read) save(read buffer:B* size:Q)""",
+    "I": """open(handle caps:dsa_caps capacity:Q) load(handle bytes:bytes* size:Q)
+        cell_count(caps:dsa_caps)
         list_count(caps:dsa_caps) caps_of(read caps:>dsa_caps)
         entry_in(read cell:I entry:>dsa_entry) holds(read cell:I name:I)
-        history_is_full(read) queue_config(read queue:H config:>dsa_queue)
-        group_config(read group:H config:>dsa_group)
+        history_is_full(read) active(read) phase(read) queue_phase(read queue:H)
+        queue_config(read queue:H config:>dsa_queue) group_config(read group:H config:>dsa_group)
         waiting_at(read queue:H place:Q entry:>dsa_entry)
         in_progress_at(read engine:H place:Q entry:>dsa_entry)
         member_at(read engine:H place:Q entry:>dsa_entry)
@@ -337,7 +388,10 @@ _HEADER = {
         history_group_config(read position:Q config:>dsa_group)
         check(descriptor:dsa_descriptor limits:dsa_limits member:I)
         need(descriptor:dsa_descriptor limits:dsa_limits member:I)
-        status(descriptor:dsa_descriptor limits:dsa_limits member:I outcome:I) version()""",
+        status(descriptor:dsa_descriptor limits:dsa_limits member:I outcome:I) version()
+        begin_anew(handle keep_fates:I) is_anew(read)
+        reason_of(read event:dsa_event reason:>dsa_reason)
+        queue_reason(read engine:H queue:H reason:>dsa_reason)""",
     "void": "close(handle) image(descriptor:dsa_descriptor pasid:I image:>dsa_descriptor)",
 }
 _CALLS: Dict[str, Tuple[str, List[Tuple[str, str]]]] = {
@@ -347,10 +401,12 @@ _CALLS: Dict[str, Tuple[str, List[Tuple[str, str]]]] = {
                                        calls.replace("(handle", "(handle:>dsa_model")
                                        .replace("(read", "(handle:dsa_model"))
 }
+_NO_NUMBER = (1 << 32) - 1  # DSA_NO_NUMBER
 _NONE = (1 << 64) - 1  # DSA_NONE
 _NO_MEMORY = _NONE - 1  # DSA_NO_MEMORY
+_NOT_SAVED = _NONE - 2  # DSA_NOT_SAVED
 _NO_PARENT = (1 << 32) - 1
-_TRUTHS = ("dedicated", "member", "interrupt")  # these take True and False
+_TRUTHS = ("dedicated", "member", "interrupt", "keep_fates")  # these take True and False
 
 
 def _places() -> List[str]:
@@ -459,6 +515,7 @@ _READ_AS: Dict[Any, Dict[str, Any]] = {
     Batch: {"failed": bool, "closed": bool},
     Event: {"kind": EventKind, "portal": Portal, "outcome": Outcome,
             "command": lambda number: Command(number) if number else None},
+    Reason: {"kind": ReasonKind, "list": ListKind},
 }
 _READERS: Dict[Any, List[Tuple[str, Any]]] = {
     kind: [(field, _READ_AS.get(kind, {}).get(field, int)) for field in kind._fields]
@@ -533,21 +590,38 @@ def _close(handle: Any) -> None:
 class Device:
     """A device of these capabilities, off, whose history has room for `capacity` steps.
 
-    At most 1,048,576 steps. All memory is taken here; `close` frees it, and a second `close` does
+    At most 1,048,576 steps. Their memory is taken here; `close` frees it, and a second `close` does
     nothing. A device is a context manager, and it is closed once nothing refers to it. Each method
     of a closed device but `close` raises ClosedDevice. A device is never copied. The first lines of
-    this module say how threads share one. Where the history is full every step is answered FULL.
+    this module say how threads share one. Where the history is full every step is answered FULL,
+    until `begin_anew` makes room.
     """
 
     __slots__ = ("_handle", "_close", "__weakref__")
 
     def __init__(self, caps: Caps, capacity: int) -> None:
-        self._handle = _STRUCTS["dsa_model"](None, False)
-        self._close = weakref.finalize(self, _close, self._handle)
-        self._close.atexit = False  # the system takes the memory; a forked child may not close
+        self._hold()
         result = OpenResult(_call("dsa_open", self._handle, caps, capacity))
         if result != OpenResult.OPENED:
             raise OpenError(result)
+
+    def _hold(self) -> None:
+        """Takes a closed handle, which is closed again with this object."""
+        self._handle = _STRUCTS["dsa_model"](None, False)
+        self._close = weakref.finalize(self, _close, self._handle)
+        self._close.atexit = False  # the system takes the memory; a forked child may not close
+
+    @classmethod
+    def load(cls, saved: Bytes) -> Device:
+        """The device that these bytes save, as `save` gives them; else LoadError is raised."""
+        if not isinstance(saved, (bytes, bytearray, memoryview)):
+            raise TypeError(f"saved is {saved!r}, bytes are wanted")
+        content, device = bytes(saved), cls.__new__(cls)
+        device._hold()
+        result = LoadResult(_call("dsa_load", device._handle, content, len(content)))
+        if result != LoadResult.LOADED:
+            raise LoadError(result)
+        return device
 
     def __enter__(self) -> Device:
         self.held()  # raises ClosedDevice
@@ -567,6 +641,14 @@ class Device:
     def closed(self) -> bool:
         return not self._handle.holds
 
+    def begin_anew(self, keep_fates: bool) -> None:
+        """Begins the history anew at the present state: no step is stored then. What is held and
+        active stays, and names go on. The fates of what ended are kept, or forgotten. MemoryError:
+        memory for the fates to come was refused, and nothing changed."""
+        result = AnewResult(self._call("dsa_begin_anew", keep_fates))
+        if result == AnewResult.NO_MEMORY:
+            raise MemoryError("there is no memory for the fates to come")
+
     def _call(self, name: str, *arguments: Any) -> Any:
         # A call on a closed handle is harmless. Looking at the handle after the call, and not
         # before it, leaves no gap in which another thread could close the device.
@@ -579,8 +661,8 @@ class Device:
         return _read(Answer, self._call(name, *arguments))
 
     def _number(self, name: str, *arguments: Any) -> Optional[int]:
-        found = int(self._call(name, *arguments))
-        return None if found == _NONE else found
+        found, none = int(self._call(name, *arguments)), {"I": _NO_NUMBER, "Q": _NONE}
+        return None if found == none[_CALLS[name][0]] else found
 
     def _ending(self, name: str, *arguments: Any) -> Optional[Ending]:
         found = _read(Ending, self._call(name, *arguments))
@@ -663,11 +745,49 @@ class Device:
                 return None
         raise RuntimeError("another thread made a step of the device")
 
+    def reason_of(self, event: Event) -> Optional[Reason]:
+        """The same reason as a kind and its numbers; of the kind NONE: there is no reason; None:
+        BAD_ARGUMENT."""
+        return self._written(Reason, "dsa_reason_of", _said(event))
+
+    def queue_reason(self, engine: int, queue: int) -> Optional[Reason]:
+        """Why the engine does not take the front of the queue; of the kind NONE: it may take it;
+        None: the queue is not one of the engine's group."""
+        return self._written(Reason, "dsa_queue_reason", engine, queue)
+
+    # snapshots
+
+    def saved_size(self) -> int:
+        """How many bytes `save` gives: 84, and 44 for each stored step; 0: the history began anew.
+        """
+        return int(self._call("dsa_saved_size"))
+
+    def save(self) -> bytes:
+        """The device as bytes, of which Device.load makes an equal device. NotSaved: its history
+        began anew."""
+        buffer = (ctypes.c_uint8 * self.saved_size())()
+        size = int(self._call("dsa_save", buffer, len(buffer)))
+        if size == _NOT_SAVED:
+            raise NotSaved("the history of the device began anew")
+        if size == _NO_MEMORY:
+            raise MemoryError("there is no memory for the bytes")
+        if size != len(buffer):
+            raise RuntimeError("another thread made a step of the device")
+        return bytes(buffer)
+
     # counts, and what happened
 
     def capacity(self) -> int:
         """How many steps the history has room for."""
         return int(self._call("dsa_capacity"))
+
+    def room(self) -> int:
+        """For how many steps memory was taken; the capacity is less only where names ran short."""
+        return int(self._call("dsa_room"))
+
+    def is_anew(self) -> bool:
+        """Whether the history began anew."""
+        return bool(self._call("dsa_is_anew"))
 
     def held(self) -> int:
         """How many entries are in all queues and engines."""
@@ -737,7 +857,7 @@ class Device:
         return [(event, answer) for event, answer in stored if event and answer]
 
     def fates_length(self) -> int:
-        """How many entries ended."""
+        """How many entries ended, without those whose fates were forgotten."""
         return int(self._call("dsa_fates_length"))
 
     def fate_at(self, position: int) -> Optional[Ending]:
@@ -745,7 +865,8 @@ class Device:
         return self._ending("dsa_fate_at", position)
 
     def fate_of(self, name: int) -> Optional[Ending]:
-        """How the entry of that name ended; None: it is still held, or there is no such name."""
+        """How the entry of that name ended; None: it is still held, there is no such name, or its
+        fate was forgotten."""
         return self._ending("dsa_fate_of", name)
 
     def fates(self) -> List[Ending]:

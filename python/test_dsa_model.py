@@ -11,6 +11,7 @@ import _ctypes
 import copy
 import ctypes
 import gc
+import hashlib
 import importlib
 import itertools
 import json
@@ -144,6 +145,10 @@ class Steps(unittest.TestCase):
             self.assertEqual(device.awaited_names(), [0, 1, 2])
             self.assertEqual(device.why(POLL),
                              "the command waits for 3 entries, first for 0 in q0")
+            reason = device.reason_of(POLL)
+            assert reason is not None
+            self.assertEqual((reason.kind, reason.count, reason.name, reason.list, reason.queue),
+                             (dsa.ReasonKind.COMMAND_WAITS, 3, 0, dsa.ListKind.QUEUE, 0))
             self.assertEqual(device.poll().kind, Kind.ACTIVE)
             refused = command(device, Command.DRAIN_ALL)
             self.assertEqual((refused.kind, refused.more, refused.fault),
@@ -156,6 +161,8 @@ class Steps(unittest.TestCase):
             self.assertEqual((device.active(), device.awaited()), (None, None))
             self.assertEqual(device.awaited_names(), [])
             self.assertIsNone(device.why(POLL._replace(portal=2, kind=EventKind.ENQCMD)))
+            self.assertIsNone(device.reason_of(POLL._replace(portal=2, kind=EventKind.ENQCMD)))
+            self.assertIsNone(device.queue_reason(0, 99))
             self.assertEqual(device.dispatch(0).kind, Kind.IDLE)
 
     def test_long_reason(self) -> None:
@@ -263,6 +270,36 @@ class Steps(unittest.TestCase):
             self.assertTrue(device.history_is_full())
             self.assertEqual((device.poll().kind, device.history_length()), (Kind.FULL, 7))
 
+    def test_begins_anew(self) -> None:
+        """All but the history stays, and the fates as the caller chooses."""
+        for keep_fates in (False, True):
+            with self.subTest(keep_fates=keep_fates), enabled(12) as device:
+                device.enqcmd(0, 0, Portal.UNLIMITED, 5, dsa.descriptor(Operation.BATCH, size=2))
+                device.enqcmd(0, 0, Portal.UNLIMITED, 5, NOTHING)
+                taken, other = device.dispatch(0), device.dispatch(0)
+                finish(device, other)
+                self.assertEqual(command(device, Command.DRAIN_ALL).kind, Kind.ACTIVE)
+                self.assertTrue(device.history_is_full() and not device.is_anew())
+                before, fates = snapshot(device), device.fates()
+                device.begin_anew(keep_fates)
+                after = snapshot(device)
+                self.assertEqual([field for field in before if before[field] != after[field]], [
+                    "history_length", "history_is_full", "history",
+                    *([] if keep_fates else ["fates_length", "fates", "fate_of"]),
+                    "queue_configs", "group_configs"])
+                self.assertEqual((device.history(), device.room(), device.is_anew()),
+                                 ([], 12, True))
+                self.assertEqual(device.fates(), fates if keep_fates else [])
+                self.assertEqual(device.saved_size(), 0)
+                self.assertRaisesRegex(dsa.NotSaved, "began anew", device.save)
+                for _ in range(2):
+                    device.fetch(0, NOTHING)
+                    finish(device, device.start(0))
+                self.assertEqual(finish(device, taken).status, Status.SUCCESS)
+                self.assertEqual(device.poll().kind, Kind.FINISHED)
+                self.assertEqual([ending.name for ending in device.fates()],
+                                 [1, 2, 3, 0] if keep_fates else [2, 3, 0])
+
     def test_refusals(self) -> None:
         """The numbers of faults in docs/MODEL.md, as c/tests/layout.c has them."""
         queues = [("size", 0, 7), ("threshold", 0, 9), ("threshold", 9, 10), ("priority", 0, 8),
@@ -330,11 +367,14 @@ class Reads(unittest.TestCase):
             device.dispatch(0)
             config, entry = device.queue_config(1), device.in_progress_at(0, 0)
             batch, event = device.batch(0), device.history_event(5)
-            assert config and entry and batch and event
+            reason = device.queue_reason(0, 0)
+            assert config and entry and batch and event and reason
             self.assertIs(config.dedicated, True)
             self.assertIs(entry.running, True)
             self.assertIs(batch.failed, False)
             self.assertIs(event.command, Command.ENABLE_WQ)
+            self.assertIs(reason.kind, dsa.ReasonKind.QUEUE_EMPTY)
+            self.assertIs(reason.list, dsa.ListKind.NONE)
             self.assertIs(device.phase(), Phase.ON)
             self.assertIs(device.queue_phase(0), Phase.ON)
             self.assertIs(device.dispatch(0).kind, Kind.IDLE)
@@ -582,7 +622,7 @@ class Descriptors(unittest.TestCase):
 BITS = {
     "client": 16, "queue": 16, "portal": 32, "pasid": 32, "engine": 16, "cell": 32, "name": 32,
     "outcome": 32, "word": 32, "group": 16, "position": 64, "place": 64, "capacity": 64,
-    "member": 32,
+    "member": 32, "keep_fates": 32,
 }
 FIELDS = {
     dsa.Caps: dict(queues=16, groups=16, engines=16, total_size=16, read_buffers=16, slots=16,
@@ -608,13 +648,14 @@ STEPS: Dict[str, Arguments] = {
     "finish": [ENGINE, ("cell", 0), ("name", 0), ("outcome", 0)], "command": [("word", 0)],
     "poll": [], "write_queue": [QUEUE, ("config", SHARED)],
     "write_group": [("group", 0), ("config", GROUP)], "clear_error": [],
-    "step": [("event", POLL)],
+    "step": [("event", POLL)], "begin_anew": [("keep_fates", True)],
 }
 READS: Dict[str, Arguments] = {
     **{name: [] for name in ("caps_of", "capacity", "held", "next_name", "active", "awaited",
                              "noted", "phase", "history_length", "history_is_full", "history",
-                             "fates_length", "fates", "awaited_names")},
-    "why": [("event", POLL)],
+                              "fates_length", "fates", "awaited_names", "saved_size", "save", "room",
+                              "is_anew")},
+    "why": [("event", POLL)], "reason_of": [("event", POLL)], "queue_reason": [ENGINE, QUEUE],
     "occupancy": [QUEUE], "used": [("group", 0)], "queue_phase": [QUEUE], "queue_config": [QUEUE],
     "group_config": [("group", 0)], "in_progress": [ENGINE], "members": [ENGINE],
     "batch": [ENGINE], "waiting_at": [QUEUE, PLACE], "in_progress_at": [ENGINE, PLACE],
@@ -652,7 +693,7 @@ def wrong_values(name: str, right: Any) -> Iterator[Tuple[Any, type, str]]:
             for value, error in wrong_numbers(bits, field == "dedicated"):
                 yield changed(right, field, value), error, field
     else:
-        for value, error in wrong_numbers(BITS[name], name == "member"):
+        for value, error in wrong_numbers(BITS[name], name in ("member", "keep_fates")):
             yield value, error, name
 
 
@@ -685,7 +726,7 @@ class WrongArguments(unittest.TestCase):
 
     def test_every_call_is_tried(self) -> None:
         public = {name for name in dir(dsa.Device) if not name.startswith("_")}
-        self.assertEqual(public, {*STEPS, *READS, "close", "closed"})
+        self.assertEqual(public, {*STEPS, *READS, "close", "closed", "load"})
 
     def test_opening(self) -> None:
         check_arguments(self, dsa.Device, [("caps", CAPS), ("capacity", 10)])
@@ -733,13 +774,48 @@ class Lives(unittest.TestCase):
         for field, above in bounds.items():
             with self.subTest(field), self.assertRaises(dsa.OpenError) as caught:
                 dsa.Device(CAPS._replace(**{field: above}), 10)
-            self.assertEqual((caught.exception.result, caught.exception.result.name),
-                             (1, "BAD_CAPS"))
-            self.assertIn("1 BAD_CAPS", str(caught.exception))
+            wrong = list(bounds).index(field) + 6, "BAD_" + field.upper()
+            self.assertEqual((caught.exception.result, caught.exception.result.name), wrong)
+            self.assertIn("%d %s" % wrong, str(caught.exception))
         with self.assertRaises(dsa.OpenError) as caught:
             dsa.Device(CAPS, 1048577)
         self.assertIs(caught.exception.result, dsa.OpenResult.BAD_CAPACITY)
         self.assertIsInstance(caught.exception, dsa.DsaError)
+
+    def test_loaded(self) -> None:
+        """A device that is loaded is the one that was saved, and goes on as it does."""
+        with enabled() as device:
+            for _ in range(3):
+                device.enqcmd(0, 0, Portal.LIMITED, 5, NOTHING)
+            taken = device.dispatch(0)
+            saved = device.save()
+            self.assertEqual((len(saved), saved[:8]), (84 + 44 * 10, b"DSASAVED"))
+            self.assertEqual((device.saved_size(), saved[-32:]),
+                             (len(saved), hashlib.sha256(saved[:-32]).digest()))
+            with dsa.Device.load(saved) as other, dsa.Device.load(memoryview(saved)) as third:
+                for it in (device, other, third):
+                    self.assertEqual(snapshot(it), snapshot(device))
+                self.assertEqual(finish(other, taken), finish(device, taken))
+                self.assertEqual(snapshot(other), snapshot(device))
+                self.assertEqual((other.save(), third.save()), (device.save(), saved))
+            self.assertTrue(other.closed)
+
+    def test_load_errors(self) -> None:
+        with enabled() as device:
+            saved = device.save()
+        for wrong, result in ((b"", "TRUNCATED"), (saved[:83], "TRUNCATED"),
+                              (saved[:-1], "BAD_LENGTH"), (saved + b"0", "BAD_LENGTH"),
+                              (b"X" + saved[1:], "BAD_MAGIC"), (bytes(len(saved)), "BAD_MAGIC"),
+                              (saved[:8] + b"\2" + saved[9:], "BAD_VERSION"),
+                              (saved[:-1] + bytes([saved[-1] ^ 1]), "BAD_CHECKSUM")):
+            with self.subTest(result), self.assertRaises(dsa.LoadError) as caught:
+                dsa.Device.load(wrong)
+            self.assertEqual(caught.exception.result.name, result)
+            self.assertIn(result, str(caught.exception))
+        self.assertIsInstance(caught.exception, dsa.DsaError)
+        for other in (None, "saved", 84, [0] * 84):
+            with self.subTest(other), self.assertRaisesRegex(TypeError, "^saved is "):
+                dsa.Device.load(other)  # type: ignore[arg-type]
 
     def test_closed(self) -> None:
         with enabled() as device:
@@ -1094,6 +1170,9 @@ class Examples(unittest.TestCase):
                     line = re.sub(r" \[\d+ is .*\]$", "", named)  # without own names
                     event = event_of(run, step)
                     reason = device.why(event) if event else None
+                    numbers = device.reason_of(event) if event else None
+                    self.assertEqual(None if reason is None else reason != "",
+                                     numbers and numbers.kind != dsa.ReasonKind.NONE)
                     answer = run.answer(step)
                     if reason is not None:
                         told += reason != ""

@@ -32,12 +32,17 @@ ENUMS: Dict[str, Tuple[Any, str]] = {
     "dsa_cause": (dsa.Cause, "DSA_"), "dsa_ending_kind": (dsa.EndingKind, "DSA_"),
     "dsa_phase_number": (dsa.Phase, "DSA_"), "dsa_event_kind": (dsa.EventKind, "DSA_EVENT_"),
     "dsa_open_result": (dsa.OpenResult, "DSA_"), "dsa_fault": (dsa.Fault, "DSA_FAULT_"),
+    "dsa_load_result": (dsa.LoadResult, "DSA_LOAD_"),
     "dsa_status": (dsa.Status, "DSA_STATUS_"), "dsa_operation": (dsa.Operation, "DSA_OP_"),
+    "dsa_anew_result": (dsa.AnewResult, "DSA_ANEW_"), "dsa_list": (dsa.ListKind, "DSA_LIST_"),
+    "dsa_reason_kind": (dsa.ReasonKind, "DSA_REASON_"),
 }
 
 
 def constant(prefix: str, member: enum.IntEnum) -> str:
     """What the header calls a member: SizesTooLarge as SIZES_TOO_LARGE, with the prefix."""
+    if member is dsa.LoadResult.LOADED:
+        return "DSA_LOADED"
     return prefix + re.sub(r"(?<=[a-z])(?=[A-Z])", "_", member.name).upper()
 
 
@@ -89,7 +94,7 @@ class Header(unittest.TestCase):
                 expected[at] = str(getattr(struct, field).offset)
                 expected[f"{at} size"] = str(getattr(struct, field).size)
         self.assertEqual(printed(statements), expected)
-        self.assertEqual(len(expected), 11 + 2 * sum(len(it._fields_)
+        self.assertEqual(len(expected), 12 + 2 * sum(len(it._fields_)
                                                      for it in dsa._STRUCTS.values()))
 
     def test_types_of_fields(self) -> None:
@@ -156,12 +161,14 @@ class Header(unittest.TestCase):
 
     def test_names_as_text(self) -> None:
         statements = [f'printf("%s %u\\t%s\\n", "{of}", {n}u, dsa_{of}_name({n}u));'
-                      for of in ("kind", "fault", "command", "status", "operation")
-                      for n in range(40)]
+                      for of in ("kind", "fault", "command", "status", "operation", "load",
+                                 "reason")
+                      for n in range(80)]
         found = printed(statements)
         for of, kind in (("kind", dsa.Kind), ("fault", dsa.Fault), ("command", dsa.Command),
-                         ("status", dsa.Status), ("operation", dsa.Operation)):
-            for n in range(40):
+                         ("status", dsa.Status), ("operation", dsa.Operation),
+                         ("load", dsa.LoadResult), ("reason", dsa.ReasonKind)):
+            for n in range(80):
                 with self.subTest(of, number=n):
                     self.assertEqual(found[f"{of} {n}"], self.text_of(of, kind, n))
 
@@ -184,9 +191,12 @@ class Header(unittest.TestCase):
         statements = [number(name, f"DSA_COMMAND({command.value}, {operand}u)")
                       for name, (command, operand) in words.items()]
         found = printed([*statements, number("none", "DSA_NONE"), number("version", "DSA_VERSION"),
-                         number("no memory", "DSA_NO_MEMORY")])
+                         number("no number", "DSA_NO_NUMBER"),
+                         number("no memory", "DSA_NO_MEMORY"), number("not saved", "DSA_NOT_SAVED")])
         self.assertEqual(found.pop("none"), str(dsa._NONE))
+        self.assertEqual(found.pop("no number"), str(dsa._NO_NUMBER))
         self.assertEqual(found.pop("no memory"), str(dsa._NO_MEMORY))
+        self.assertEqual(found.pop("not saved"), str(dsa._NOT_SAVED))
         self.assertEqual(int(found.pop("version")) // 1000, dsa.VERSION // 1000)
         self.assertEqual(found, {name: str(dsa.command_word(*it)) for name, it in words.items()})
 

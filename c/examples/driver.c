@@ -47,7 +47,7 @@ int main(void)
 	struct dsa_answer error = dsa_clear_error(&device);
 	printf("noted: queue %u, cause %u\n", error.name, error.more);
 	command(&device, DSA_DRAIN_WQ, 1);
-	printf("active: %s; poll: %s\n", dsa_command_name((uint32_t)dsa_active(&device)), dsa_kind_name(dsa_poll(&device).kind));
+	printf("active: %s; poll: %s\n", dsa_command_name(dsa_active(&device)), dsa_kind_name(dsa_poll(&device).kind));
 	while (dsa_poll(&device).kind == DSA_ACTIVE)
 		work(&device);
 	printf("drained; %u held\n", (unsigned)dsa_held(&device));

@@ -1,4 +1,4 @@
-/* A device is saved as its steps, and opened again from them. */
+/* A device is kept as its steps, and they are made again on another one. */
 #include <stdio.h>
 #include <string.h>
 #include "dsa_model.h"

@@ -34,6 +34,7 @@ fn sizes() {
         ),
         (28, 16, 44)
     );
+    assert_eq!(size_of::<dsa_reason>(), 84);
 }
 
 fn name(text: *const core::ffi::c_char) -> &'static str {
@@ -54,6 +55,12 @@ fn names() {
             "DSA_OPCODE_COMPARE"
         );
         assert_eq!(name(dsa_operation_name(256)), "?");
+        assert_eq!(name(dsa_load_name(DSA_LOAD_BAD_STEP)), "bad step");
+        assert_eq!(name(dsa_reason_name(DSA_REASON_QUEUE_EMPTY)), "queue empty");
+        assert_eq!(
+            name(dsa_anew_result_name(DSA_ANEW_NO_MEMORY)),
+            "no memory"
+        );
     }
 }
 
@@ -110,6 +117,24 @@ unsafe fn reason(model: &dsa_model, kind: u32) -> Vec<u8> {
     buffer[..length].iter().map(|byte| *byte as u8).collect()
 }
 
+/// The same as a kind and its numbers.
+unsafe fn numbers(model: &dsa_model, kind: u32) -> dsa_reason {
+    let event = dsa_event {
+        kind,
+        ..core::mem::zeroed()
+    };
+    let mut reason = core::mem::zeroed();
+    assert_eq!(dsa_reason_of(model, &event, &mut reason), 1);
+    reason
+}
+
+fn saved(model: &dsa_model) -> Vec<u8> {
+    let mut bytes = vec![0; unsafe { dsa_saved_size(model) } as usize];
+    let size = unsafe { dsa_save(model, bytes.as_mut_ptr(), bytes.len() as u64) };
+    assert_eq!(size, bytes.len() as u64);
+    bytes
+}
+
 fn main() {
     sizes();
     names();
@@ -133,6 +158,30 @@ fn main() {
         assert_eq!(dsa_fate_of(&model, taken.name).kind, DSA_COMPLETED);
         assert_eq!(reason(&model, DSA_EVENT_POLL), b"no command is active");
         assert_eq!(reason(&model, DSA_EVENT_DISPATCH), b"q0 is empty");
+        let mut idle = numbers(&model, DSA_EVENT_DISPATCH);
+        assert_eq!((idle.kind, idle.engine), (DSA_REASON_ENGINE_IDLE, 0));
+        assert_eq!(dsa_queue_reason(&model, 0, 0, &mut idle), 1);
+        assert_eq!((idle.kind, idle.queue), (DSA_REASON_QUEUE_EMPTY, 0));
+        assert_eq!(
+            numbers(&model, DSA_EVENT_POLL).kind,
+            DSA_REASON_NO_COMMAND
+        );
+        let (bytes, mut other) = (saved(&model), dsa_closed());
+        let size = bytes.len() as u64;
+        let result = dsa_load(&mut other, bytes.as_ptr(), size - 1);
+        assert_eq!((result, other.holds), (DSA_LOAD_BAD_LENGTH, false));
+        assert_eq!(dsa_load(&mut other, bytes.as_ptr(), size), DSA_LOADED);
+        assert_eq!(dsa_fate_of(&other, taken.name).kind, DSA_COMPLETED);
+        assert_eq!(saved(&other), bytes);
+        dsa_close(&mut other);
+        assert_eq!(dsa_begin_anew(&mut model, 0), DSA_ANEW_BEGUN);
+        assert_eq!(
+            (dsa_is_anew(&model), dsa_room(&model), dsa_fates_length(&model)),
+            (1, 100, 0)
+        );
+        let mut byte = 7;
+        assert_eq!(dsa_saved_size(&model), 0);
+        assert_eq!(dsa_save(&model, &mut byte, 1), DSA_NOT_SAVED);
         dsa_close(&mut model);
         assert_eq!((dsa_held(&model), dsa_closed().holds), (DSA_NONE, false));
         dsa_close(core::ptr::null_mut());

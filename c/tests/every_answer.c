@@ -63,7 +63,7 @@ static void errors(struct dsa_model *device)
 static void commands(struct dsa_model *device)
 {
 	is(dsa_poll(device), DSA_NOTHING);
-	CHECK(dsa_active(device) == DSA_NONE);
+	CHECK(dsa_active(device) == DSA_NO_NUMBER);
 	is(dsa_command(device, DSA_COMMAND(DSA_DRAIN_ALL, 0)), DSA_ACTIVE);
 	CHECK(dsa_active(device) == DSA_DRAIN_ALL);
 	is(dsa_poll(device), DSA_ACTIVE);

@@ -58,6 +58,28 @@ AT(dsa_batch, count, 4);
 AT(dsa_batch, fetched, 8);
 AT(dsa_batch, failed, 12);
 AT(dsa_batch, closed, 13);
+SIZE(dsa_reason, 84);
+AT(dsa_reason, kind, 0);
+AT(dsa_reason, queue, 4);
+AT(dsa_reason, group, 8);
+AT(dsa_reason, engine, 12);
+AT(dsa_reason, list, 16);
+AT(dsa_reason, name, 20);
+AT(dsa_reason, other, 24);
+AT(dsa_reason, count, 28);
+AT(dsa_reason, limit, 32);
+AT(dsa_reason, needed, 36);
+AT(dsa_reason, in_use, 40);
+AT(dsa_reason, buffers, 44);
+AT(dsa_reason, kept, 48);
+AT(dsa_reason, phase, 52);
+AT(dsa_reason, device_phase, 56);
+AT(dsa_reason, portal, 60);
+AT(dsa_reason, command, 64);
+AT(dsa_reason, operand, 68);
+AT(dsa_reason, operation, 72);
+AT(dsa_reason, status, 76);
+AT(dsa_reason, shift, 80);
 SIZE(dsa_event, 44);
 AT(dsa_event, kind, 0);
 AT(dsa_event, name, 4);
@@ -113,7 +135,7 @@ int main(void)
 	};
 	struct dsa_model device = DSA_CLOSED;
 	for (size_t i = 0; i < sizeof caps / sizeof caps[0]; i++) {
-		CHECK(dsa_open(&device, &caps[i], 10) == DSA_BAD_CAPS);
+		CHECK(dsa_open(&device, &caps[i], 10) == DSA_BAD_QUEUES + i);
 		CHECK(dsa_cell_count(&caps[i]) == 0 && dsa_list_count(&caps[i]) == 0);
 	}
 	CHECK(dsa_open(&device, &small_caps, 10) == DSA_OPENED);

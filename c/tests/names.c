@@ -44,17 +44,25 @@ static bool is_named(const char *name)
 static void compare(const struct constant *constants, size_t count, const char *before_constant,
                     const char *(*name_of)(uint32_t), const char *before_name)
 {
-	size_t named = 0;
 	for (size_t i = 0; i < count; i++)
 		CHECK(are_alike(without(before_constant, constants[i].spelling),
 		                without(before_name, name_of(constants[i].number))));
+}
+
+static void count_names(const char *(*name_of)(uint32_t), size_t count)
+{
+	size_t named = 0;
 	for (uint32_t number = 0; number < 1000; number++)
 		named += is_named(name_of(number));
 	CHECK(named == count && !is_named(name_of(UINT32_MAX)));
 }
 
+#define COUNT(constants) (sizeof constants / sizeof constants[0])
 #define COMPARE(constants, before_constant, name_of, before_name) \
-	compare(constants, sizeof constants / sizeof constants[0], before_constant, name_of, before_name)
+	do { \
+		compare(constants, COUNT(constants), before_constant, name_of, before_name); \
+		count_names(name_of, COUNT(constants)); \
+	} while (0)
 
 /* A closed handle refuses a word that is no command. */
 static void ask_for_commands(void)
@@ -83,6 +91,11 @@ int main(void)
 	COMPARE(command_number_constants, "DSA_", dsa_command_name, "");
 	COMPARE(status_constants, "DSA_STATUS_", dsa_status_name, "DSA_COMP_");
 	COMPARE(operation_constants, "DSA_OP_", dsa_operation_name, "DSA_OPCODE_");
+	compare(load_result_constants, 1, "DSA_", dsa_load_name, "");
+	compare(load_result_constants + 1, COUNT(load_result_constants) - 1, "DSA_LOAD_", dsa_load_name, "");
+	count_names(dsa_load_name, COUNT(load_result_constants));
+	COMPARE(anew_result_constants, "DSA_ANEW_", dsa_anew_result_name, "");
+	COMPARE(reason_kind_constants, "DSA_REASON_", dsa_reason_name, "");
 	ask_for_commands();
 	ask_for_operations();
 	return 0;

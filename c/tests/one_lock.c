@@ -4,13 +4,16 @@
 
 struct locked { pthread_mutex_t lock; struct dsa_model handle; };
 
+/* How often each thread tries. */
+static int tries = 100000;
+
 static struct locked shared = { PTHREAD_MUTEX_INITIALIZER, DSA_CLOSED };
 
 static void *submit(void *taken)
 {
 	struct dsa_descriptor nothing = descriptor_of(0x00, 0, 0);
 	uint64_t *accepted = taken;
-	for (int i = 0; i < 100000; i++) {
+	for (int i = 0; i < tries; i++) {
 		pthread_mutex_lock(&shared.lock);
 		*accepted += dsa_enqcmd(&shared.handle, 0, 0, DSA_LIMITED, 5, &nothing).kind == DSA_ACCEPTED;
 		pthread_mutex_unlock(&shared.lock);
@@ -21,7 +24,7 @@ static void *submit(void *taken)
 static void *work(void *ended)
 {
 	uint64_t *done = ended;
-	for (int i = 0; i < 100000; i++) {
+	for (int i = 0; i < tries; i++) {
 		pthread_mutex_lock(&shared.lock);
 		struct dsa_answer taken = dsa_dispatch(&shared.handle, 0);
 		if (taken.kind == DSA_TAKEN) {
@@ -33,8 +36,10 @@ static void *work(void *ended)
 	return NULL;
 }
 
-int main(void)
+int main(int count, char **words)
 {
+	if (count > 1)
+		tries = atoi(words[1]);
 	pthread_t client, engine;
 	uint64_t accepted = 0, done = 0;
 	shared.handle = enabled(1000000);

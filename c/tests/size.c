@@ -1,5 +1,6 @@
-/* What dsa_open asks of malloc is what dsa_size says, and each way to close a device gives it back. Of the other calls only dsa_why
- * takes memory. The linker sends the library's calls of malloc, calloc, realloc and free here. */
+/* What dsa_open and dsa_load ask of malloc is what dsa_size says, and each way to close a device gives it back. dsa_save takes as
+ * much as it writes. Of the other calls only dsa_why takes memory. The linker sends the library's calls of malloc, calloc, realloc
+ * and free here. */
 #include "check.h"
 
 void *__real_malloc(size_t size);
@@ -86,7 +87,7 @@ static void sizes(void)
 	for (size_t i = 0; i < sizeof all / sizeof all[0]; i++)
 		for (size_t j = 0; j < sizeof capacities / sizeof capacities[0]; j++)
 			CHECK(dsa_size(all[i], capacities[j]) == opening(all[i], capacities[j], DSA_OPENED) && asked > 0);
-	CHECK(dsa_size(&none, 10) == 0 && opening(&none, 10, DSA_BAD_CAPS) == 0);
+	CHECK(dsa_size(&none, 10) == 0 && opening(&none, 10, DSA_BAD_QUEUES) == 0);
 	CHECK(dsa_size(&small_caps, 1048577) == 0 && opening(&small_caps, 1048577, DSA_BAD_CAPACITY) == 0);
 	CHECK(dsa_size(&small_caps, UINT64_MAX) == 0 && dsa_size(&none, UINT64_MAX) == 0);
 }
@@ -113,6 +114,57 @@ static void refused(const struct dsa_caps *caps)
 	CHECK(held() == 0);
 }
 
+/* A batch in progress with a member that runs and one that does not, and a No-op that waits. */
+static void hold_entries(struct dsa_model *device)
+{
+	struct dsa_descriptor batch = descriptor_of(0x01, 0, 3), move = descriptor_of(0x03, 0, 8),
+		nothing = descriptor_of(0x00, 0, 0);
+	CHECK(dsa_enqcmd(device, 0, 0, DSA_UNLIMITED, 5, &batch).kind == DSA_ACCEPTED);
+	CHECK(dsa_dispatch(device, 0).kind == DSA_TAKEN);
+	for (int i = 0; i < 2; i++)
+		CHECK(dsa_fetch(device, 0, &move).kind == DSA_FETCHED);
+	CHECK(dsa_start(device, 0).kind == DSA_STARTED);
+	CHECK(dsa_movdir64b(device, 0, 1, DSA_UNLIMITED, &nothing).kind == DSA_ACCEPTED);
+	CHECK(dsa_held(device) == 4);
+}
+
+/* Memory is refused to a loading at each request in turn, of a device that holds entries. */
+static void refused_loading(void)
+{
+	struct dsa_model from = enabled(100), device = DSA_CLOSED;
+	uint8_t bytes[1000];
+	int met = 0;
+	hold_entries(&from);
+	uint64_t size = dsa_save(&from, bytes, sizeof bytes), before = held();
+	for (left = 0; dsa_load(&device, bytes, size) == DSA_LOAD_OUT_OF_MEMORY; left = ++met)
+		CHECK(held() == before && device.at == NULL && !device.holds && met < 20);
+	CHECK(left == 0 && met > 1 && device.holds && held() == 2 * before && before == dsa_size(&small_caps, 100));
+	left = -1;
+	dsa_close(&device);
+	CHECK(dsa_load(&device, bytes, size - 1) == DSA_LOAD_BAD_LENGTH && held() == before);
+	bytes[size - 1] ^= 1;
+	CHECK(dsa_load(&device, bytes, size) == DSA_LOAD_BAD_CHECKSUM && held() == before);
+	dsa_close(&from);
+	CHECK(held() == 0);
+}
+
+/* Saving takes as much as it writes, once, and gives it back. Where that is refused nothing is written. */
+static void refused_saving(void)
+{
+	struct dsa_model device = enabled(100);
+	uint8_t bytes[1000] = { 7 };
+	uint64_t size = dsa_saved_size(&device), before = held();
+	left = 0;
+	CHECK(dsa_save(&device, bytes, sizeof bytes) == DSA_NO_MEMORY && bytes[0] == 7 && held() == before);
+	CHECK(dsa_save(&device, bytes, size - 1) == size && dsa_saved_size(&device) == size);
+	left = 1;
+	asked = 0;
+	CHECK(dsa_save(&device, bytes, size) == size && bytes[0] == 'D' && asked == size && held() == before);
+	left = -1;
+	dsa_close(&device);
+	CHECK(held() == 0);
+}
+
 /* A second opening takes nothing and gives nothing back, whatever it asks for. */
 static void opened_again(void)
 {
@@ -125,19 +177,6 @@ static void opened_again(void)
 	CHECK(asked == 0 && held() == before);
 	dsa_close(&device);
 	CHECK(held() == 0);
-}
-
-/* A batch in progress with a member that runs and one that does not, and a No-op that waits. */
-static void hold_entries(struct dsa_model *device)
-{
-	struct dsa_descriptor batch = descriptor_of(0x01, 0, 3), move = descriptor_of(0x03, 0, 8), nothing = descriptor_of(0x00, 0, 0);
-	CHECK(dsa_enqcmd(device, 0, 0, DSA_UNLIMITED, 5, &batch).kind == DSA_ACCEPTED);
-	CHECK(dsa_dispatch(device, 0).kind == DSA_TAKEN);
-	for (int i = 0; i < 2; i++)
-		CHECK(dsa_fetch(device, 0, &move).kind == DSA_FETCHED);
-	CHECK(dsa_start(device, 0).kind == DSA_STARTED);
-	CHECK(dsa_movdir64b(device, 0, 1, DSA_UNLIMITED, &nothing).kind == DSA_ACCEPTED);
-	CHECK(dsa_held(device) == 4);
 }
 
 /* Closes a device that holds entries, with a command that is active, or aborted them, or reset the device, where a word is given. */
@@ -187,15 +226,15 @@ static void closed_when_full(void)
 	CHECK(held() == 0);
 }
 
-/* Closes a device that has given as many names as its history allows, and holds none of these entries. */
-static void closed_after_many_names(void)
+/* Closes a device that has given as many names as its history allows, by default the longest one, and holds none of these entries. */
+static void closed_after_many_names(uint64_t capacity)
 {
-	struct dsa_model device = enabled(1048576);
+	struct dsa_model device = enabled(capacity);
 	struct dsa_descriptor nothing = descriptor_of(0x00, 0, 0);
 	while (dsa_history_is_full(&device) == 0)
 		if (dsa_enqcmd(&device, 0, 0, DSA_UNLIMITED, 5, &nothing).kind == DSA_RETRY)
 			dsa_command(&device, DSA_COMMAND(DSA_ABORT_ALL, 0));
-	CHECK(dsa_next_name(&device) > 800000);
+	CHECK(dsa_next_name(&device) > capacity / 4 * 3);
 	dsa_close(&device);
 	CHECK(held() == 0);
 }
@@ -218,13 +257,15 @@ static void one_of_two(void)
 	CHECK(held() == 0);
 }
 
-int main(void)
+int main(int count, char **words)
 {
 	const struct dsa_caps greatest = { 64, 8, 64, 4096, 255, 16, 10, 31 };
 	sizes();
 	lengths();
 	refused(&small_caps);
 	refused(&greatest);
+	refused_loading();
+	refused_saving();
 	opened_again();
 	closed_while_held(0, DSA_WRITTEN);
 	closed_while_held(DSA_COMMAND(DSA_DRAIN_ALL, 0), DSA_ACTIVE);
@@ -234,7 +275,7 @@ int main(void)
 	for (uint32_t count = 1; count <= 4096; count *= 2)
 		closed_with(count);
 	closed_when_full();
-	closed_after_many_names();
+	closed_after_many_names(count > 1 ? strtoul(words[1], NULL, 10) : 1048576);
 	one_of_two();
 	return 0;
 }

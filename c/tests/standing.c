@@ -34,7 +34,7 @@ static void configured(struct dsa_model *device)
 	struct dsa_queue queue;
 	struct dsa_group group;
 	CHECK(dsa_phase(device) == DSA_ON && dsa_queue_phase(device, 1) == DSA_ON);
-	CHECK(dsa_queue_phase(device, 2) == DSA_NONE);
+	CHECK(dsa_queue_phase(device, 2) == DSA_NO_NUMBER);
 	CHECK(dsa_queue_config(device, 1, &queue) == 1 && memcmp(&queue, &own_queue, sizeof queue) == 0);
 	CHECK(dsa_queue_config(device, 2, &queue) == 0 && memcmp(&queue, &own_queue, sizeof queue) == 0);
 	CHECK(dsa_queue_config(device, 0, &queue) == 1 && memcmp(&queue, &shared_queue, sizeof queue) == 0);
@@ -111,7 +111,8 @@ static void closed(struct dsa_model *device)
 	struct dsa_queue queue;
 	struct dsa_group group;
 	struct dsa_batch note;
-	CHECK(dsa_phase(device) == DSA_NONE && dsa_queue_phase(device, 0) == DSA_NONE && dsa_awaited(device) == DSA_NONE);
+	CHECK(dsa_phase(device) == DSA_NO_NUMBER && dsa_queue_phase(device, 0) == DSA_NO_NUMBER
+		&& dsa_awaited(device) == DSA_NONE);
 	CHECK(dsa_in_progress(device, 0) == DSA_NONE && dsa_members(device, 0) == DSA_NONE);
 	CHECK(dsa_queue_config(device, 0, &queue) == 0 && dsa_group_config(device, 0, &group) == 0 && dsa_batch(device, 0, &note) == 0);
 	CHECK(waiting(device, 0, 0).pasid == 0 && in_progress(device, 0, 0).pasid == 0 && member(device, 0, 0).pasid == 0);

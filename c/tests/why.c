@@ -1,6 +1,6 @@
 /* What dsa_why says of an event is what dsa_step then answers it for, and dsa_awaited_names has the names that a command waits for.
- * python/test_dsa_model.py compares the texts with those of the program. The linker sends the library's calls of malloc, realloc
- * and free here. */
+ * python/test_dsa_model.py compares the texts with those of the program. An argument is the number of random runs. The linker sends
+ * the library's calls of malloc, realloc and free here. */
 #include "check.h"
 
 #define ROOM 4096
@@ -283,14 +283,15 @@ static void one_step(struct dsa_model *device)
 	names_are_held(device);
 }
 
-int main(void)
+int main(int count, char **words)
 {
+	int runs = count > 1 ? atoi(words[1]) : RUNS;
 	submissions();
 	engines();
 	commands();
 	no_reason();
 	refused();
-	for (int run = 0; run < RUNS; run++) {
+	for (int run = 0; run < runs; run++) {
 		struct dsa_model device = enabled(MOST_STEPS - below(40));
 		for (int step = 0; step < MOST_STEPS; step++)
 			one_step(&device);

@@ -59,7 +59,7 @@ static void take(struct dsa_model *device, uint16_t engines)
 static void nothing_more(struct dsa_model *device, uint16_t queues, uint16_t engines)
 {
 	CHECK(dsa_occupancy(device, queues - 1) == PLACES && dsa_occupancy(device, queues) == DSA_NONE);
-	CHECK(dsa_queue_phase(device, queues - 1) == DSA_ON && dsa_queue_phase(device, queues) == DSA_NONE);
+	CHECK(dsa_queue_phase(device, queues - 1) == DSA_ON && dsa_queue_phase(device, queues) == DSA_NO_NUMBER);
 	CHECK(dsa_in_progress(device, engines) == DSA_NONE && dsa_dispatch(device, engines).kind == DSA_IDLE);
 }
 

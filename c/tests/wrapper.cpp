@@ -49,6 +49,10 @@ static void each_step(dsa::device &device)
 	poll.kind = DSA_EVENT_POLL;
 	char reason[32];
 	CHECK(device.why(poll, reason, sizeof reason) == 20 && std::strcmp(reason, "no command is active") == 0);
+	dsa::reason told = dsa::reason();
+	CHECK(device.reason_of(poll, told) && told.kind == DSA_REASON_NO_COMMAND);
+	CHECK(device.queue_reason(0, 0, told) && told.kind == DSA_REASON_NONE);
+	CHECK(!device.queue_reason(0, 1, told));
 	CHECK(device.step(poll).kind == DSA_NOTHING);
 	const dsa::answer taken = device.dispatch(0);
 	CHECK(taken.kind == DSA_TAKEN);
@@ -59,6 +63,18 @@ static void each_step(dsa::device &device)
 		CHECK(device.finish(0, started.cell, started.name, DSA_SUCCESS).kind == DSA_DONE);
 	}
 	CHECK(device.finish(0, taken.cell, taken.name, DSA_SUCCESS).kind == DSA_DONE);
+}
+
+static void begins_anew(dsa::device &device)
+{
+	CHECK(!device.is_anew() && dsa_history_length(device.handle()) > 0);
+	CHECK(device.begin_anew(true) == DSA_ANEW_BEGUN && device.is_anew() && device.room() == 100);
+	CHECK(dsa_history_length(device.handle()) == 0 && dsa_fates_length(device.handle()) == 3);
+	CHECK(device.save().empty());
+	dsa::device closed, other = enabled();
+	CHECK(closed.begin_anew(true) == DSA_ANEW_NO_DEVICE && !closed.is_anew() && closed.room() == DSA_NONE);
+	each_step(other);
+	CHECK(other.begin_anew(false) == DSA_ANEW_BEGUN && dsa_fates_length(other.handle()) == 0);
 }
 
 static void moves(dsa::device first)
@@ -78,10 +94,25 @@ static void moves(dsa::device first)
 	CHECK(!second.is_open());
 }
 
+/* The bytes of a device make another one, which goes on from there. */
+static void saved(const dsa::device &device)
+{
+	dsa::device other, closed;
+	const std::vector<uint8_t> bytes = device.save();
+	CHECK(bytes.size() == 84 + 44 * dsa_history_length(device.handle()) && closed.save().empty());
+	CHECK(other.load(bytes.data(), bytes.size() - 1) == DSA_LOAD_BAD_LENGTH && !other.is_open());
+	CHECK(other.load(closed.save()) == DSA_LOAD_TRUNCATED && !other.is_open());
+	CHECK(other.load(bytes) == DSA_LOADED && other.save() == bytes);
+	CHECK(other.load(bytes) == DSA_LOAD_ALREADY_OPEN && other.poll().kind == DSA_NOTHING);
+	CHECK(dsa_fates_length(other.handle()) == 3);
+}
+
 int main()
 {
 	dsa::device device = enabled();
 	each_step(device);
+	saved(device);
+	begins_anew(device);
 	moves(std::move(device));
 	return 0;
 }

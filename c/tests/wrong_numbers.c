@@ -1,8 +1,69 @@
 /* Wrong numbers are answered as the header says. */
 #include "check.h"
 
+/* Each field of struct dsa_caps with its limits, in the order of the fields. */
+static const struct { uint32_t wrong; uint16_t least, greatest; } limits_of[] = {
+	{ DSA_BAD_QUEUES, 1, 64 }, { DSA_BAD_GROUPS, 1, 8 }, { DSA_BAD_ENGINES, 1, 64 }, { DSA_BAD_TOTAL_SIZE, 1, 4096 },
+	{ DSA_BAD_READ_BUFFERS, 1, 255 }, { DSA_BAD_SLOTS, 1, 16 },
+	{ DSA_BAD_MAX_BATCH_SHIFT, 1, 10 }, { DSA_BAD_MAX_XFER_SHIFT, 0, 31 }
+};
+static const size_t fields = sizeof limits_of / sizeof limits_of[0];
+
+static void put(struct dsa_caps *caps, size_t field, unsigned value)
+{
+	switch (field) {
+	case 0: caps->queues = (uint16_t)value; break;
+	case 1: caps->groups = (uint16_t)value; break;
+	case 2: caps->engines = (uint16_t)value; break;
+	case 3: caps->total_size = (uint16_t)value; break;
+	case 4: caps->read_buffers = (uint16_t)value; break;
+	case 5: caps->slots = (uint16_t)value; break;
+	case 6: caps->max_batch_shift = (uint8_t)value; break;
+	default: caps->max_xfer_shift = (uint8_t)value; break;
+	}
+}
+
+static void opens_as(const struct dsa_caps *caps, uint64_t capacity, uint32_t wanted)
+{
+	struct dsa_model device = DSA_CLOSED;
+	CHECK(dsa_open(&device, caps, capacity) == wanted && device.holds == (wanted == DSA_OPENED));
+	CHECK((dsa_size(caps, capacity) == 0) == (wanted != DSA_OPENED));
+	dsa_close(&device);
+}
+
+/* Two fields that are wrong: the first one is told, before a capacity that is wrong, too. */
+static void two_wrong_fields(size_t first, size_t second)
+{
+	struct dsa_caps caps = small_caps;
+	put(&caps, first, limits_of[first].greatest + 1u);
+	put(&caps, second, limits_of[second].greatest + 1u);
+	opens_as(&caps, 10, limits_of[first].wrong);
+	opens_as(&caps, 1048577, limits_of[first].wrong);
+}
+
+/* Each field at its limits, one below and one above them, and at its largest number. */
+static void wrong_fields(void)
+{
+	for (size_t i = 0; i < fields; i++) {
+		struct dsa_caps caps = small_caps;
+		const unsigned good[] = { limits_of[i].least, limits_of[i].greatest },
+			bad[] = { good[0] - 1, good[1] + 1, UINT16_MAX };
+		for (size_t k = 0; k < 2; k++) {
+			put(&caps, i, good[k]);
+			opens_as(&caps, 10, DSA_OPENED);
+		}
+		for (size_t k = 0; k < 3; k++) {
+			put(&caps, i, bad[k]);
+			opens_as(&caps, 10, limits_of[i].wrong);
+		}
+		for (size_t k = i + 1; k < fields; k++)
+			two_wrong_fields(i, k);
+	}
+}
+
 int main(void)
 {
+	wrong_fields();
 	struct dsa_model device = DSA_CLOSED;
 	struct dsa_descriptor nothing = descriptor_of(0x00, 0, 0), odd;
 	struct dsa_limits limits = { 255, 255 };
@@ -10,7 +71,7 @@ int main(void)
 
 	/* a closed handle */
 	CHECK(dsa_command(&device, 0).kind == DSA_REFUSED && dsa_command(&device, DSA_COMMAND(1, 0)).kind == DSA_NO_DEVICE);
-	CHECK(dsa_capacity(&device) == DSA_NONE && dsa_held(&device) == DSA_NONE && dsa_active(&device) == DSA_NONE);
+	CHECK(dsa_capacity(&device) == DSA_NONE && dsa_held(&device) == DSA_NONE && dsa_active(&device) == DSA_NO_NUMBER);
 	CHECK(dsa_occupancy(&device, 0) == DSA_NONE && dsa_used(&device, 0) == DSA_NONE && dsa_next_name(&device) == DSA_NONE);
 	CHECK(dsa_history_length(&device) == DSA_NONE && dsa_fates_length(&device) == DSA_NONE);
 	CHECK(dsa_noted(&device).kind == DSA_NO_DEVICE && dsa_history_answer(&device, 0).kind == DSA_NO_DEVICE);
@@ -20,8 +81,8 @@ int main(void)
 
 	/* opening */
 	struct dsa_caps none = { 0, 0, 0, 0, 0, 0, 0, 0 };
-	CHECK(dsa_open(&device, &none, 10) == DSA_BAD_CAPS);
-	CHECK(dsa_open(&device, &none, UINT64_MAX) == DSA_BAD_CAPS);
+	CHECK(dsa_open(&device, &none, 10) == DSA_BAD_QUEUES);
+	CHECK(dsa_open(&device, &none, UINT64_MAX) == DSA_BAD_QUEUES);
 	CHECK(dsa_open(&device, &small_caps, 1048577) == DSA_BAD_CAPACITY);
 	CHECK(dsa_open(&device, &small_caps, UINT64_MAX) == DSA_BAD_CAPACITY);
 	CHECK(dsa_open(&device, &small_caps, 10) == DSA_OPENED);

@@ -10,8 +10,9 @@ from typing import Iterator, Optional, Sequence, Tuple
 
 from . import chrome, conforming, counts, drawing, texts
 from .checking import compare_checks
-from .dialogue import compare_serve
+from .dialogue import compare_begun, compare_serve
 from .documents import decorated, document_of
+from .formless import compare_formless, compare_long
 from .friendly import compare_expand
 from .picture import compare_drawing
 from .program import Comparer, Program
@@ -21,10 +22,12 @@ ABOUT = """
 Compares a built dsa_run with an independent model of the device on random documents.
 
 The model in tools/recounting is written from docs/MODEL.md, docs/SCENARIO.md, docs/EXPLAIN.md,
-docs/COMMANDS.md and docs/EXPAND.md alone. For each document it makes the text of each command, and
-compares it with what the program writes. Where a page leaves something open, each choice of the
-program is accepted: which run --seen shows, which of several devices a reason of 'conform' is of,
-and which lane a bar has. Left out are 'threads', colors, and the legend and the labels of drawings.
+docs/COMMANDS.md and docs/EXPAND.md alone, but for the cells of entries, which are as
+docs/DECISIONS.md has them. For each document it makes the text of each command, and compares it
+with what the program writes. Dialogues are strict or friendly, and in some the history begins anew.
+Where a page leaves something open, each choice of the program is accepted: which run --seen shows,
+which of several devices a reason of 'conform' is of, and which lane a bar has. Left out are
+'threads', colors, and the legend and the labels of drawings.
 """
 MORE = """
 With FILE the documents are those of the files, for which 'check' has no warning. Otherwise they are
@@ -32,7 +35,8 @@ random, and those of a seed are always the same.
 
 Each difference has a line, with the seed and its document; --first NUMBER --count 1 compares that
 document again, and --show prints it. The last line is 'N documents, M texts compared,
-K differences'. The exit status is 0 if nothing differs.
+K differences'. A line before it names what the program does not have, by the names of
+tools/recounting/features.py: it is not compared. The exit status is 0 if nothing differs.
 """
 WORDS = [
     *("accepted", "retry", "dropped", "taken", "idle", "fetched", "no-batch", "all-fetched"),
@@ -120,7 +124,12 @@ def compare_document(comparer: Comparer, source: random.Random, document: Docume
     compare_seen(comparer, source, document)
     compare_checks(comparer, source, document)
     compare_expand(comparer, source, document)
-    compare_serve(comparer, source, document)
+    compare_formless(comparer, source, document)
+    if source.random() < 0.02:
+        compare_long(comparer, source, document)
+    compare_begun(comparer, source, document)
+    for _ in range(2):
+        compare_serve(comparer, source, document)
 
 
 def words_of_command(arguments: Optional[Sequence[str]]) -> argparse.Namespace:
@@ -165,6 +174,8 @@ def main(arguments: Optional[Sequence[str]] = None) -> int:
     for name, source, document in documents(words):
         comparer.name, count = name, count + 1
         compare_document(comparer, source, document)
+    if program.features.missing:
+        print(f"not compared: {', '.join(program.features.missing)}")
     texts_compared = f"{comparer.texts} texts compared"
     print(f"{count} documents, {texts_compared}, {comparer.differences} differences")
     return 1 if comparer.differences else 0

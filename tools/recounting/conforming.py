@@ -20,6 +20,7 @@ from .run import Document, Run, run_of, words_of
 MOST_DEVICES = 400
 CHANGES = [
     *("?", "idle", "full", "accepted", "nothing", "done 01", "active", "", "retry at-limit"),
+    *("done 1", "taken 0", "taken from 00", "idle ", "accepted 07", "ended", "refused 16 Busy"),
     *('a "text"\n', "caf\u00e9", "\U0001f600", "a\\b"),
 ]
 

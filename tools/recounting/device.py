@@ -1,13 +1,14 @@
 """The state of a device, what it shows, and which answers it may give.
 
 Each rule is one of docs/MODEL.md. Lists of entries are plain lists, front first. Cells are left
-out: no line of a run depends on them."""
+out of a run, of which no line depends on them: only a dialogue keeps them."""
 from __future__ import annotations
 
 import pickle
 from dataclasses import dataclass, field
 from typing import Any, Dict, List, NamedTuple, Optional, Tuple
 
+from .cells import Cells
 from .descriptor import (
     BAD_COUNT,
     BAD_FENCE,
@@ -150,9 +151,17 @@ class Device:
         self.error: Optional[Noted] = None
         self.next_name = 0
         self.fates: List[Fate] = []
+        self.cells: Optional[Cells] = None
 
     def copy(self) -> Device:
         return pickle.loads(pickle.dumps(self, pickle.HIGHEST_PROTOCOL))
+
+    def begin_anew(self, keeps_fates: bool) -> None:
+        """Empties the history. It has room for as many steps as before, since more names are left
+        than a dialogue gives."""
+        self.stored = 0
+        if not keeps_fates:
+            self.fates.clear()
 
     def has_queue(self, number: int) -> bool:
         return number < len(self.queues)

@@ -3,9 +3,11 @@
 docs/COMMANDS.md has the table of facts in chapter 'conform'. Its rows are tried from the top."""
 from __future__ import annotations
 
+import re
 from typing import Callable, Dict, List, Optional
 
 from .answers import (
+    FAULTS,
     Answer,
     Event,
     allowed,
@@ -17,19 +19,22 @@ from .device import Device
 from .reasons import of_queue, reason
 
 CAUSES = ["not-enabled", "wrong-kind", "at-limit"]
-# the first words of the answers that steps of each kind have
-WORDS: Dict[str, str] = {
-    "queue": "written refused full",
-    "group": "written refused full",
-    "enqcmd": "accepted retry full",
-    "movdir": "accepted dropped full",
-    "dispatch": "taken idle full",
-    "fetch": "fetched no-batch all-fetched full",
-    "start": "started fence-wait no-buffers abandoned nothing full",
-    "finish": "done not-ready gone full",
-    "command": "ended active refused full",
-    "poll": "finished active nothing full",
-    "clear": "cleared nothing full",
+# the answers that steps of each kind have
+NUMBER = "(0|[1-9][0-9]*)"
+CAUSE = f"({'|'.join(CAUSES)})"
+REFUSED = f"refused ({'|'.join(f'{number} {name}' for number, name in enumerate(FAULTS) if name)})"
+FORMS: Dict[str, str] = {
+    "queue": f"written|{REFUSED}|full",
+    "group": f"written|{REFUSED}|full",
+    "enqcmd": f"accepted( {NUMBER})?|retry {CAUSE}|full",
+    "movdir": f"accepted( {NUMBER})?|dropped {CAUSE}|full",
+    "dispatch": f"taken( {NUMBER})? from {NUMBER}|idle|full",
+    "fetch": f"fetched( {NUMBER})?|no-batch|all-fetched|full",
+    "start": f"started( {NUMBER})?|fence-wait|no-buffers|abandoned {NUMBER}|nothing|full",
+    "finish": "done [0-9a-f]{2}|not-ready|gone|full",
+    "command": f"ended {NUMBER}|active|{REFUSED}|full",
+    "poll": "finished|active|nothing|full",
+    "clear": f"cleared {NUMBER} {CAUSE}( overflow)?|nothing|full",
 }
 LAST: Dict[str, Callable[[Device, Event, Answer], str]] = {
     "accepted": lambda device, event, own: f"the next name is {device.next_name}",
@@ -48,13 +53,17 @@ def seen_text(device: Device, event: Event) -> Optional[str]:
     """The answer that was seen, or None where no step of the kind is answered so. If the device may
     give it and the zero flag alone differs, it is the answer that the flag means."""
     text = event.get("answer")
+    if event.get("zf") is not None and event["do"] != "enqcmd":
+        return None
+    if text is not None and is_word_without_command(event) and not re.fullmatch(REFUSED, text):
+        return None
     if text in [said for own in allowed(device, event) for said in (own.text, own.without_name)]:
         text = None
     if text is None and event["do"] != "enqcmd":
         return None
     if text is None:
         text = "retry at-limit" if event["zf"] else "accepted"
-    return text if text.split(" ")[0] in WORDS[event["do"]].split() else None
+    return text if re.fullmatch(FORMS[event["do"]], text) else None
 
 
 def against_submission(device: Device, event: Event, seen: str, own: Answer) -> Optional[str]:

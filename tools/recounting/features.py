@@ -2,7 +2,7 @@
 from __future__ import annotations
 
 import json
-from typing import TYPE_CHECKING
+from typing import TYPE_CHECKING, List
 
 if TYPE_CHECKING:
     from .program import Program
@@ -29,8 +29,8 @@ TRIED = {
 class Features:
     """What a program has: reasons and own names in the titles of drawings, own names in reasons and
     in traces, '--changes', '--friendly', facts against what was seen, friendly keys that a check
-    knows, its warnings of own names, and the places of what is not JSON in a line of a
-    dialogue."""
+    knows, its warnings of own names; of dialogues the places of what is not JSON in a line,
+    histories that begin anew, '--friendly', and friendly documents."""
 
     def __init__(self, program: Program) -> None:
         tried = json.dumps(TRIED)
@@ -50,8 +50,17 @@ class Features:
         self.names_expand = "expand writes it" in program.run(["check"], wrong).output
         named = json.dumps({**TRIED, "steps": [{**TRIED["steps"][4], "as": 5}]})
         self.warns_of_names = '"as" is 5' in program.run(["check"], named).output
-        self.locates_no_json = "column 1" in program.run(["serve"], f"{tried}\nfly\n").output
+        said = program.run(["serve"], f'{tried}\nfly\n{{"do": "begin-anew"}}\n').output
+        self.locates_no_json, self.begins_anew = "column 1" in said, "begun anew" in said
+        self.serves_friendly = "--friendly" in program.run(["serve", "--help"], "").output
+        named = json.dumps({**TRIED, "steps": [{"do": "command", "command": "drain-all"}]})
+        self.begins_friendly = "ready 1" in program.run(["serve", "--friendly"], named).output
         self.end = "the end" if "the end is here" in program.run(["check"], "[").output else None
+
+    @property
+    def missing(self) -> List[str]:
+        """The names of what the program does not have."""
+        return [name for name, has in vars(self).items() if not has]
 
 
 def unescaped(program: Program, word: str, text: str) -> str:

@@ -5,7 +5,7 @@ import json
 import random
 from typing import Any, Dict, List
 
-from .answers import Event
+from .answers import Answer, Event
 from .configuration import bits
 from .descriptor import COMMANDS, ENABLE_WQ, OF_MASKS, OF_PASIDS, OPERATIONS, Command
 from .conforming import changed, recording_of
@@ -29,9 +29,10 @@ KEYS = {
     "clear": (),
 }
 
-OWN_NAMES = [
+# values at 'as': texts, and what is no own name
+OWN_NAMES: List[Any] = [
     *("x1", "x2", "x3", "x4", "the first", "[it] is, so", "<a & b>", 'say "no"'),
-    *("x" * 41, ""),
+    *("x" * 41, "", 7),
 ]
 
 
@@ -101,25 +102,20 @@ class Pair:
         self.is_friendly = True
 
 
-class Friendly:
-    """A friendly document beside its strict one, with own names for entries."""
+class OwnNames:
+    """The own names that steps gave, each with the name of the last entry that was given it."""
 
-    def __init__(self, source: random.Random, document: Document) -> None:
-        self.source, self.document = source, document
-        self.pairs: List[Pair] = []
-        self.names: Dict[str, int] = {}
-        run = Run({**document, "steps": []}, keeps_states=False)
-        for event in document["steps"]:
-            pair = Pair(source, event)
-            if source.random() < 0.5:
-                pair.change()
-            self.name(pair)
-            step = run.make(pair.strict)
-            if step.answer.kind in ("accepted", "fetched") and "as" in pair.strict:
-                self.names[pair.strict["as"]] = step.name
-            if source.random() < 0.1:
-                pair.friendly["note"] = pair.strict["note"] = 'a "remark"'
-            self.pairs.append(pair)
+    def __init__(self, source: random.Random) -> None:
+        self.source = source
+        self.known: Dict[str, int] = {}
+
+    def pair(self, event: Event) -> Pair:
+        """A step that is friendly, or as it is, with own names here and there."""
+        pair = Pair(self.source, event)
+        if self.source.random() < 0.5:
+            pair.change()
+        self.name(pair)
+        return pair
 
     def name(self, pair: Pair) -> None:
         """Gives a submission or a fetch an own name, or uses one in a finish."""
@@ -128,24 +124,53 @@ class Friendly:
             text = self.source.choice(OWN_NAMES)
             pair.friendly["as"] = pair.strict["as"] = text
         if kind == "finish":
-            known = [text for text, name in self.names.items() if name == pair.strict["name"]]
+            known = [text for text, name in self.known.items() if name == pair.strict["name"]]
             if known:
                 pair.friendly["name"] = known[0]
                 pair.is_friendly = True
 
+    def note(self, event: Event, given: Answer) -> None:
+        """Notes the own name that a step gave."""
+        text = event.get("as")
+        if given.kind in ("accepted", "fetched") and isinstance(text, str):
+            self.known[text] = given.values["name"]
+
+
+class Friendly:
+    """A friendly document beside its strict one, with own names for entries."""
+
+    def __init__(self, source: random.Random, document: Document) -> None:
+        self.pairs: List[Pair] = []
+        names = OwnNames(source)
+        run = Run({**document, "steps": []}, keeps_states=False)
+        for event in document["steps"]:
+            pair = names.pair(event)
+            names.note(pair.strict, run.make(pair.strict).answer)
+            if source.random() < 0.1:
+                pair.friendly["note"] = pair.strict["note"] = 'a "remark"'
+            self.pairs.append(pair)
+        self.document = {**document, "steps": [pair.friendly for pair in self.pairs]}
+        self.strict = {**document, "steps": [pair.strict for pair in self.pairs]}
+
     @property
     def text(self) -> str:
-        return json.dumps({**self.document, "steps": [pair.friendly for pair in self.pairs]})
+        return json.dumps(self.document)
 
     @property
     def expanded(self) -> str:
         """The text of the strict document."""
         if not any(pair.is_friendly for pair in self.pairs):
             return self.text
-        caps = json.dumps(self.document["caps"], sort_keys=True, separators=(",", ":"))
-        head = f'{{\n  "caps": {caps},\n  "capacity": {self.document["capacity"]},\n  "steps": [\n'
-        steps = ",\n".join(f"    {line_of(pair.strict)}" for pair in self.pairs)
-        return f"{head}{steps}\n  ]\n}}"
+        return expanded_text(self.strict)
+
+
+def expanded_text(strict: Document) -> str:
+    """The text that 'expand' writes of a document with a friendly step, whose strict form this
+    is."""
+    caps = json.dumps(strict["caps"], sort_keys=True, separators=(",", ":"))
+    head = f'{{\n  "caps": {caps},\n  "capacity": {strict["capacity"]},\n  "steps": [\n'
+    steps = ",\n".join(f"    {line_of(step)}" for step in strict["steps"])
+    return f"{head}{steps}\n  ]\n}}"
 
 
 def line_of(strict: Event) -> str:
@@ -158,7 +183,7 @@ def line_of(strict: Event) -> str:
 
 def compare_own_names(comparer: Comparer, source: random.Random, friendly: Friendly) -> None:
     """Compares the texts of the strict document, whose steps have own names."""
-    run = run_of({**friendly.document, "steps": [pair.strict for pair in friendly.pairs]})
+    run = run_of(friendly.strict)
     features = comparer.program.features
     shown = dict(
         has_own_names=features.shows_own_names, has_awaited=features.shows_awaited_names
@@ -182,8 +207,7 @@ def compare_friendly_recording(
     comparer: Comparer, source: random.Random, friendly: Friendly
 ) -> None:
     """Compares what 'conform --friendly' says of a friendly document with answers."""
-    strict = {**friendly.document, "steps": [pair.strict for pair in friendly.pairs]}
-    seen = changed(source, recording_of(source, strict), source.choice([0, 1]))
+    seen = changed(source, recording_of(source, friendly.strict), source.choice([0, 1]))
     steps = []
     for pair, step in zip(friendly.pairs, seen["steps"]):
         answers = {key: step[key] for key in ("answer", "zf") if key in step}

@@ -114,15 +114,17 @@ def of_start(device: Device, event: Event, given: Answer) -> Optional[str]:
     if given.kind == "fence-wait":
         return f"{fence}, and waits for {engine.members[0].name}"
     if given.kind == "abandoned":
-        failed = failed_members(device, engine.note.name)[0].name
+        failed = failed_members(device, engine.note.name)
+        which = f"member {failed[0].name}" if failed else "a member"
         count = given.values["count"]
         end = f"{count} {'ends' if count == 1 else 'end'} unstarted"
-        return f"{fence}, member {failed} before it failed, and {end}"
+        return f"{fence}, {which} before it failed, and {end}"
     return f"the member {buffers(device, device.group_of(number), device.need(member))}"
 
 
 def failed_members(device: Device, batch: int) -> List[Fate]:
-    """The fates of the members of a batch that were not successful, in the order of their ends."""
+    """The fates of the members of a batch that were not successful, in the order of their ends,
+    without those that were forgotten."""
     return [
         fate
         for fate in device.fates
@@ -141,6 +143,8 @@ def of_gone(device: Device, event: Event) -> str:
         return f"{name} was aborted by {COMMANDS[fate.number]}"
     if fate:
         return f"{name} was abandoned"
+    if place is None and device.cells and name < device.next_name:
+        return device.cells.of_ticket(name)
     if place is None:
         return f"no entry has the name {name}"
     where, _ = place
@@ -167,7 +171,10 @@ def of_status(device: Device, entry: Entry, status: int) -> Optional[str]:
     if status == PAGE_FAULT:
         return "page fault"
     if status == MEMBER_FAILED:
-        first, *others = failed_members(device, entry.name)
+        failed = failed_members(device, entry.name)
+        if not failed:
+            return "a member failed"
+        first, *others = failed
         said = f"member {first.name} ended with {first.number:02x}"
         return f"{said}, the first of {len(others) + 1}" if others else said
     if status == UNSUPPORTED and descriptor.operation < len(OPERATIONS):

@@ -39,7 +39,7 @@ def words_of(event: Event) -> str:
     kind = event["do"]
     if kind in ("enqcmd", "movdir"):
         portal = "limited" if event["limited"] else "unlimited"
-        how = f"enqcmd pasid {event['pasid']}" if kind == "enqcmd" else "movdir"
+        how = f"enqcmd pasid {event['pasid'] % (1 << 20)}" if kind == "enqcmd" else "movdir"
         what = Descriptor.of(event["desc"]).words
         return f"submit q{event['queue']} {portal} {how} client {event['client']} {what}"
     if kind == "fetch":

@@ -28,7 +28,7 @@ pub record IsWithdrawn (command : Command) (content : Content) (first : Records)
     (book : Records) : Type 0 where
   pub left : now ≡ thinned (is_spared command) content i k
   pub rows : book ≡ record first { fates = first.fates ++ rows_of_abort command (take k (chain content i)) }
-  pub room : length book.fates + held_count now ≤ book.capacity
+  pub room : length book.fates + held_count now ≤ book.row_room
 
 -- and the lists are as many
 pub withdrawn-list : {command : Command} {content now : Content} {first book : Records} {i k : ℕ}
@@ -75,7 +75,7 @@ module _ {command : Command} {content now : Content} {first book : Records} {i k
 -- and a row of it has room
 pub withdrawn-room : {command : Command} {content now : Content} {first book : Records} {i k : ℕ} {got : Option Entry}
     {e : Entry} (cell : Cell) → IsWithdrawn command content first i k now book → got ≡ entry_of now cell
-    → got ≡ Some e → length book.fates < book.capacity
+    → got ≡ Some e → length book.fates < book.row_room
 withdrawn-room {now = now} cell w read is =
     omega (arith, w.room, used-entry now cell (sym read ∙ is), held-unlinked now cell)
 
@@ -135,7 +135,7 @@ pub record IsSwept (command : Command) (content : Content) (first : Records) (n 
     (book : Records) : Type 0 where
   pub left : now ≡ swept command content n
   pub rows : book ≡ record first { fates = first.fates ++ rows_of_abort command (all_held (take n content)) }
-  pub room : length book.fates + held_count now ≤ book.capacity
+  pub room : length book.fates + held_count now ≤ book.row_room
 
 -- the rows of one list after those of the lists before it
 rows-lists : (command : Command) (content : Content) (n : ℕ) → n < length content

@@ -29,7 +29,7 @@ pub(crate) fn abort<S: EntryStore>(
     requires in_step { IsInStep queues.old.setup engines.old (S.cells store.old)
         (S.content store.old) }
     requires counted { IsCounted queues.old (S.content store.old) }
-    requires room { length book.old.fates + held_count (S.content store.old) ≤ book.old.capacity }
+    requires room { length book.old.fates + held_count (S.content store.old) ≤ book.old.row_room }
     ensures work { after_abort (number_of_command command.now) (scope_of command.now)
         (work queues.old.setup engines.old (S.content store.old) book.old.fates)
         ≡ work queues.new.setup engines.new (S.content store.new) book.new.fates }
@@ -56,7 +56,7 @@ pub(crate) fn abort_alone<S: EntryStore>(
     requires in_step { IsInStep queues.old.setup engines.old (S.cells store.old)
         (S.content store.old) }
     requires counted { IsCounted queues.old (S.content store.old) }
-    requires room { length book.old.fates + held_count (S.content store.old) ≤ book.old.capacity }
+    requires room { length book.old.fates + held_count (S.content store.old) ≤ book.old.row_room }
     ensures aborted { (active : Option ActiveCommand)
         → abort_of (state queues.old.setup engines.old (S.content store.old) book.old.fates active)
         (number_of_command command.now) (scope_of command.now) (λ setup. setup)
@@ -99,7 +99,7 @@ pub(crate) fn reset<S: EntryStore>(
     requires in_step { IsInStep queues.old.setup engines.old (S.cells store.old)
         (S.content store.old) }
     requires counted { IsCounted queues.old (S.content store.old) }
-    requires room { length book.old.fates + held_count (S.content store.old) ≤ book.old.capacity }
+    requires room { length book.old.fates + held_count (S.content store.old) ≤ book.old.row_room }
     ensures reset { (active : Option ActiveCommand)
         → abort_of (state queues.old.setup engines.old (S.content store.old) book.old.fates active)
         (number_of_command command.now) (scope_of command.now)

@@ -215,7 +215,7 @@ impl Admin {
             (S.content store.old) }
         requires counted { IsCounted queues.old (S.content store.old) }
         requires room { length book.old.fates + held_count (S.content store.old)
-            ≤ book.old.capacity }
+            ≤ book.old.row_room }
         ensures carried { command_done_of
             (state queues.old.setup engines.old (S.content store.old) book.old.fates
             self.old.active)
@@ -267,7 +267,7 @@ impl Admin {
         requires counted { IsCounted queues.old (S.content store.old) }
         requires awaiting { IsAwaiting self.old queues.old.setup.next_name (S.content store.old) }
         requires room { length book.old.fates + held_count (S.content store.old)
-            ≤ book.old.capacity }
+            ≤ book.old.row_room }
         ensures issued { issue
             (state queues.old.setup engines.old (S.content store.old) book.old.fates
             self.old.active)

@@ -45,7 +45,7 @@ fn withdraw_from<S: EntryStore>(
     requires in_step { IsInStep queues.old.setup engines.old (S.cells store.old)
         (S.content store.old) }
     requires counted { IsCounted queues.old (S.content store.old) }
-    requires room { length book.old.fates + held_count (S.content store.old) ≤ book.old.capacity }
+    requires room { length book.old.fates + held_count (S.content store.old) ≤ book.old.row_room }
     ensures setup { queues.new.setup ≡ queues.old.setup }
     ensures left { S.content store.new
         ≡ slice_set (S.content store.old) list.0
@@ -96,7 +96,7 @@ fn give_back<S: EntryStore>(
     requires in_step { IsInStep queues.old.setup engines.old (S.cells store.old)
         (S.content store.old) }
     requires counted { IsCounted queues.old (S.content store.old) }
-    requires room { length book.old.fates + held_count (S.content store.old) ≤ book.old.capacity }
+    requires room { length book.old.fates + held_count (S.content store.old) ≤ book.old.row_room }
     ensures setup { queues.new.setup ≡ queues.old.setup }
     ensures left { S.content store.new ≡ after_give_back (S.content store.old) list.0 }
     ensures rows { book.new
@@ -133,7 +133,7 @@ pub(crate) fn withdraw<S: EntryStore>(
     requires in_step { IsInStep queues.old.setup engines.old (S.cells store.old)
         (S.content store.old) }
     requires counted { IsCounted queues.old (S.content store.old) }
-    requires room { length book.old.fates + held_count (S.content store.old) ≤ book.old.capacity }
+    requires room { length book.old.fates + held_count (S.content store.old) ≤ book.old.row_room }
     ensures setup { queues.new.setup ≡ queues.old.setup }
     ensures left { S.content store.new
         ≡ only_where (λ entry. not (is_in_scope (scope_of command.now) entry))

@@ -11,6 +11,15 @@ pub enum Fate {
     Abandoned,
 }
 
+/// Whether a device that begins its history anew keeps the fates of what ended before.
+#[derive(Clone, Copy, Debug, PartialEq, Eq)]
+pub enum PastFates {
+    /// All fates are kept, and take memory.
+    Kept,
+    /// No fate is kept: that of an entry which ended before is `None`.
+    Forgotten,
+}
+
 /// The fate of one name. A submitted entry has no parent; the parent of a member is the name of its
 /// batch.
 #[derive(Clone, Copy, Debug, PartialEq, Eq)]

@@ -14,5 +14,5 @@ pub use answer::{
 };
 pub use book::Book;
 pub use event::{Actor, Event, Kind, Portal, Step};
-pub use fate::{Fate, FateRow};
+pub use fate::{Fate, FateRow, PastFates};
 pub use note::{ActiveCommand, BatchNote};

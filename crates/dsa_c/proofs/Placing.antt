@@ -50,3 +50,11 @@ pub text-written : (places text : List ℕ) (shown : ℕ) → (length places == 
     ≡ with_items places (text_for_c (length places) text)
 text-written [] text shown some is = absurd cc
 text-written (place ∷ places) text shown some is = text-fits place places text shown (omega (arith, is))
+
+-- what is written first, and the places behind it
+pub all-fits : (places items : List ℕ) → length items ≤ length places
+    → items ++ drop (length items) places ≡ with_items places items
+all-fits [] [] room = refl
+all-fits [] (item ∷ items) room = absurd (omega (arith, room))
+all-fits (place ∷ places) [] room = refl
+all-fits (place ∷ places) (item ∷ items) room = ap (λ l. item ∷ l) (all-fits places items (omega (arith, room)))

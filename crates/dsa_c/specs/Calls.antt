@@ -12,8 +12,6 @@ use Rattle.dsa_book.specs.declared.answer.{Reply.{Reply}, DispatchAnswer.{Dispat
 use Rattle.dsa_book.specs.{Choice.{choice_of, from_queue}, Work.{qualifies}}
 use Rattle.dsa_book.specs.declared.event.{Event.{Event}, Kind.{Kind}}
 use Rattle.dsa_book.specs.declared.event.Portal.{Portal, TheVariants.{Limited, Unlimited}}
-use Rattle.dsa_device.specs.declared.faults.MakeFault.{MakeFault}
-use Rattle.dsa_device.specs.declared.faults.MakeFault.TheVariants.{BadCaps, BadCapacity, BadStore, OutOfMemory}
 use Rattle.dsa_device.specs.Running.{Running, after_answer}
 use Rattle.dsa_book.specs.declared.fate.FateRow.{FateRow}
 use Rattle.dsa_c.specs.declared.{answer.{Answer.{Answer}, Ending.{Ending}}, words.DeviceLimits.{DeviceLimits}}
@@ -21,8 +19,7 @@ use Rattle.dsa_c.specs.declared.steps.{DeviceQueue.{DeviceQueue}, DeviceGroup.{D
 use Rattle.dsa_c.specs.Answers.{answer_of, no_device, bad_argument, refusal_answer, noted_answer, step_answer}
 use Rattle.dsa_c.specs.Answers.{answer_from_queue, ending_of}
 use Rattle.dsa_c.specs.Place.{HeldDevice}
-use Rattle.dsa_c.specs.declared.numbers.TheConstants.{LIMITED, UNLIMITED, SUCCESS, PAGE_FAULT, BAD_CAPS, BAD_CAPACITY, BAD_STORE}
-use Rattle.dsa_c.specs.declared.numbers.TheConstants.{OUT_OF_MEMORY, NONE}
+use Rattle.dsa_c.specs.declared.numbers.TheConstants.{LIMITED, UNLIMITED, SUCCESS, PAGE_FAULT, NONE}
 
 -- the device behind a handle made exactly this step, and the answer is its reply's; a handle of no device stays one
 abbrev pub IsStep : HeldDevice → Event → Answer → HeldDevice → Type 0
@@ -102,15 +99,6 @@ finishing engine cell name outcome =
 abbrev pub queue_write : ℕ → DeviceQueue → Option Event
 queue_write queue config = option_map (λ dedicated. event.WriteQueue queue (queue_from_c config dedicated))
     (bit_of config.dedicated)
-
--- ---- opening
-
--- the number of a fault that kept a device from being opened
-abbrev pub opening_number : MakeFault → ℕ
-opening_number BadCaps = BAD_CAPS
-opening_number BadCapacity = BAD_CAPACITY
-opening_number BadStore = BAD_STORE
-opening_number OutOfMemory = OUT_OF_MEMORY
 
 -- ---- reads
 

@@ -1,3 +1,4 @@
+pub mod Anew
 pub mod Answers
 pub mod Buffers
 pub mod Calls
@@ -6,4 +7,6 @@ pub mod Lending
 pub mod Opening
 pub mod Place
 pub mod Reads
+pub mod Reasons
+pub mod Saving
 pub mod Why

@@ -1,5 +1,5 @@
 -- What a read writes for C.
-use Rattle.std.specs.Prelude.{◌≡◌, ℕ, Bool, List, Option, None, Some, nat_lt, option_map}
+use Rattle.std.specs.Prelude.{◌≡◌, ℕ, Bool, List, Option, None, Some, nat_lt, option_map, unwrap_or}
 use Rattle.dsa_base.specs.Rows.{passes, when}
 use Rattle.dsa_regs.specs.declared.Phase.{Phase, TheVariants.{Off, On, Stopping}}
 use Rattle.dsa_regs.specs.declared.{QueueConfig.{QueueConfig}, GroupConfig.{GroupConfig}}
@@ -11,7 +11,7 @@ use Rattle.dsa_device.specs.Running.{Running}
 use Rattle.dsa_c.specs.declared.steps.{DeviceQueue.{DeviceQueue}, DeviceGroup.{DeviceGroup}}
 use Rattle.dsa_c.specs.declared.standing.{DeviceEntry.{DeviceEntry}, DeviceBatch.{DeviceBatch}}
 use Rattle.dsa_c.specs.{Answers.{bit_number, parent_number}, Calls.{asked_for}, Place.{HeldDevice}}
-use Rattle.dsa_c.specs.declared.numbers.TheConstants.{OFF, ON, STOPPING}
+use Rattle.dsa_c.specs.declared.numbers.TheConstants.{OFF, ON, STOPPING, NO_NUMBER}
 
 -- 1 where there is something to read, and it is written in C's form; 0 where there is not, and nothing is written
 abbrev pub IsWrittenForC : {X Y : Type 0} → (X → Y) → Option X → ℕ → Y → Y → Type 0
@@ -27,6 +27,10 @@ IsReadForC form f held said before after held_after =
 -- whether there is a device behind the handle, and it passes
 abbrev pub bit_asked : (Running → Bool) → HeldDevice → ℕ
 bit_asked test before = bit_number (passes (λ machine. test machine.device) before)
+
+-- the number of 32 bits that the device behind a handle says, where there is one and it is not silent
+abbrev pub number_asked : (Running → Option ℕ) → HeldDevice → ℕ
+number_asked f before = unwrap_or (asked_for f before) NO_NUMBER
 
 -- the entries of a list, where the device has such a list
 abbrev pub entries_of_list_for_c : Running → ListUse → Option (List HeldEntry)

@@ -1,7 +1,7 @@
 //! Places of C that a call writes to.
 
-ghost use Rattle.std.specs.Prelude.{◌≡◌, ◌∷◌, ℕ, List};
-ghost use Rattle.dsa_c.specs.Buffers.{with_items_from, with_text_for_c};
+ghost use Rattle.std.specs.Prelude.{◌≡◌, ◌≤◌, ◌∷◌, ℕ, List, length};
+ghost use Rattle.dsa_c.specs.Buffers.{with_items, with_items_from, with_text_for_c};
 
 // Writes as many bytes of the text as fit before a zero, and the zero. Nothing where there is no
 // place.
@@ -27,4 +27,13 @@ pub(crate) fn write_number(number: u32, places: &mut [u32], place: usize) -> usi
     }
     places[place] = number;
     place + 1
+}
+
+// Writes all the bytes to the first places.
+pub(crate) fn write_bytes(bytes: &[u8], places: &mut [u8])
+    requires { length bytes.now ≤ length places.old }
+    ensures { places.new ≡ with_items places.old bytes.now }
+{
+    let (front, _) = places.split_at_mut(bytes.len());
+    front.copy_from_slice(bytes);
 }

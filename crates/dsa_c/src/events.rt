@@ -45,7 +45,7 @@ pub struct DeviceEvent {
     pub command: u8,
 }
 
-fn portal_number(portal: Portal) -> u8
+pub(crate) fn portal_number(portal: Portal) -> u8
     ensures { result ≡ portal_number portal }
 {
     match portal {

@@ -1,14 +1,19 @@
 //! How a handle gets its device, and gives it up.
 
-ghost use Rattle.std.specs.Prelude.{◌≡◌, None, Some, is_some};
+ghost use Rattle.std.specs.Prelude.{◌≡◌, None, Some, is_some, not};
 ghost use Rattle.dsa_base.specs.Rows.{first_row};
-ghost use Rattle.dsa_regs.specs.Caps.{cell_count, list_count};
+ghost use Rattle.dsa_regs.specs.Caps.{check_caps, cell_count, list_count};
+ghost use Rattle.dsa_regs.specs.declared.Caps.{Caps};
 ghost use Rattle.dsa_device.specs.Made.{opening_table};
 ghost use Rattle.dsa_c.specs.Opening.{IsOpening, caps_from_c, caps_for_c, count_of_caps, bytes_taken};
-ghost use Rattle.dsa_c.specs.{Calls.{opening_number}, Reads.{IsReadForC}};
+ghost use Rattle.dsa_c.specs.Opening.{first_wrong, opening_number};
+ghost use Rattle.dsa_c.specs.Reads.{IsReadForC};
 
 use crate::handle::{Handle, let_device};
-use crate::numbers::{ALREADY_OPEN, BAD_CAPACITY, BAD_CAPS, BAD_STORE, OPENED, OUT_OF_MEMORY};
+use crate::numbers::{
+    ALREADY_OPEN, BAD_CAPACITY, BAD_ENGINES, BAD_GROUPS, BAD_MAX_BATCH_SHIFT, BAD_MAX_XFER_SHIFT,
+    BAD_QUEUES, BAD_READ_BUFFERS, BAD_SLOTS, BAD_STORE, BAD_TOTAL_SIZE, OPENED, OUT_OF_MEMORY,
+};
 use dsa_book::{FateRow, Step};
 use dsa_device::{MakeFault, check_opening};
 use dsa_linked::LinkedDevice;
@@ -57,14 +62,59 @@ fn caps_for_c(found: &Caps) -> DeviceCaps
     same_caps!(DeviceCaps, found)
 }
 
-fn fault_number(fault: MakeFault) -> u32
-    ensures { result ≡ opening_number fault }
+const SMALLEST: Caps = Caps {
+    queues: 1,
+    groups: 1,
+    engines: 1,
+    total_size: 1,
+    read_buffers: 1,
+    slots: 1,
+    max_batch_shift: 1,
+    max_xfer_shift: 1,
+};
+
+// The smallest device with this one of the capabilities.
+macro_rules! alone {
+    ($caps:ident, $field:ident) => {
+        Caps {
+            $field: $caps.$field,
+            ..SMALLEST
+        }
+    };
+}
+
+// The number of the first capability that is out of its limits.
+fn first_wrong(caps: &Caps) -> Option<u32>
+    ensures { result ≡ first_wrong caps.now }
+{
+    let each_alone = [
+        (BAD_QUEUES, alone!(caps, queues)),
+        (BAD_GROUPS, alone!(caps, groups)),
+        (BAD_ENGINES, alone!(caps, engines)),
+        (BAD_TOTAL_SIZE, alone!(caps, total_size)),
+        (BAD_READ_BUFFERS, alone!(caps, read_buffers)),
+        (BAD_SLOTS, alone!(caps, slots)),
+        (BAD_MAX_BATCH_SHIFT, alone!(caps, max_batch_shift)),
+        (BAD_MAX_XFER_SHIFT, alone!(caps, max_xfer_shift)),
+    ];
+    let wrong = each_alone.iter().find(|row| !check_caps(&row.1))?;
+    Some(wrong.0)
+}
+
+// A capability is wrong exactly where the capabilities are refused.
+#[allow(dead_code)]
+fn one_is_wrong_where_they_are_refused()
+    ensures { (caps : Caps) → is_some (first_wrong caps) ≡ not (check_caps caps) }
+{}
+
+fn fault_number(caps: &Caps, fault: MakeFault) -> Option<u32>
+    ensures { result ≡ opening_number caps.now fault }
 {
     match fault {
-        MakeFault::BadCaps => BAD_CAPS,
-        MakeFault::BadCapacity => BAD_CAPACITY,
-        MakeFault::BadStore => BAD_STORE,
-        MakeFault::OutOfMemory => OUT_OF_MEMORY,
+        MakeFault::BadCaps => first_wrong(caps),
+        MakeFault::BadCapacity => Some(BAD_CAPACITY),
+        MakeFault::BadStore => Some(BAD_STORE),
+        MakeFault::OutOfMemory => Some(OUT_OF_MEMORY),
     }
 }
 
@@ -76,11 +126,11 @@ const LIST_BYTES: u64 = 20;
 
 const STEP_BYTES: u64 = 72;
 
-const DEVICE_BYTES: u64 = 3808;
+const DEVICE_BYTES: u64 = 3832;
 
 const _: () = prove!(size_of::<Step>() + size_of::<FateRow>() == 72);
 
-const _: () = prove!(size_of::<LinkedDevice>() == 3808);
+const _: () = prove!(size_of::<LinkedDevice>() == 3832);
 
 /// How many bytes an opened device of these capabilities and this capacity takes, 0 where it would
 /// be refused.
@@ -127,6 +177,7 @@ pub extern "C" fn dsa_list_count(caps: &DeviceCaps) -> u32
 
 /// Opens a device behind a handle that has none: 0, or the number of what keeps it from being
 /// opened.
+#[tactic(auto, using(crate::proofs::WrongCaps::has_number))]
 #[unsafe(no_mangle)]
 pub extern "C" fn dsa_open(
     alloc: Global,
@@ -140,9 +191,10 @@ pub extern "C" fn dsa_open(
     if handle.holds {
         return ALREADY_OPEN;
     }
-    let machine = match LinkedDevice::new(alloc, caps_of(caps), capacity) {
+    let caps = caps_of(caps);
+    let machine = match LinkedDevice::new(alloc, caps, capacity) {
         Ok(machine) => machine,
-        Err(fault) => return fault_number(fault),
+        Err(fault) => return fault_number(&caps, fault).unwrap(),
     };
     let Ok(machine) = Box::new(alloc, machine) else {
         return OUT_OF_MEMORY;

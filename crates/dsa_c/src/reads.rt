@@ -1,17 +1,17 @@
 //! What the device behind a handle tells of itself. No read changes it.
 
-ghost use Rattle.std.specs.Prelude.{◌≡◌, ◌==◌, ℕ, nat_lt, find, length, slice_get, option_map};
+ghost use Rattle.std.specs.Prelude.{◌≡◌, ◌==◌, ℕ, nat_lt, find, length, slice_get, option_map, unwrap_or};
 ghost use Rattle.dsa_base.specs.Rows.{when};
 ghost use Rattle.dsa_regs.specs.Command.{number_of_command};
 ghost use Rattle.dsa_store.specs.Content.{held_count};
 ghost use Rattle.dsa_book.specs.State.{occupancy};
 ghost use Rattle.dsa_book.specs.Work.{used};
 ghost use Rattle.dsa_c.specs.Calls.{IsReadAs, number_told, number_told_for, or_none};
-ghost use Rattle.dsa_c.specs.Calls.{noted_of, reply_at, ending_for};
+ghost use Rattle.dsa_c.specs.{Calls.{noted_of, reply_at, ending_for}, Reads.{number_asked}};
 
 use crate::answer::{Answer, Ending};
 use crate::handle::{Handle, let_device};
-use crate::numbers::NONE;
+use crate::numbers::{NO_NUMBER, NONE};
 use dsa_book::FateRow;
 
 // A number that may not be there.
@@ -19,6 +19,13 @@ pub(crate) fn or_none(number: Option<u64>) -> u64
     ensures { result ≡ or_none number }
 {
     number.unwrap_or(NONE)
+}
+
+// A number of 32 bits that may not be there.
+pub(crate) fn or_no_number(number: Option<u32>) -> u32
+    ensures { result ≡ unwrap_or number NO_NUMBER }
+{
+    number.unwrap_or(NO_NUMBER)
 }
 
 // The row of that name.
@@ -82,14 +89,14 @@ pub extern "C" fn dsa_next_name(handle: &mut Handle) -> u64
 
 /// The number of the command that is not over yet.
 #[unsafe(no_mangle)]
-pub extern "C" fn dsa_active(handle: &mut Handle) -> u64
-    ensures { IsReadAs (number_told_for
+pub extern "C" fn dsa_active(handle: &mut Handle) -> u32
+    ensures { IsReadAs (number_asked
         (λ d. option_map (λ active. number_of_command active.command) d.state.active))
         handle.old.place.machine result handle.new.place.machine }
 {
-    let_device!(device, handle, NONE);
+    let_device!(device, handle, NO_NUMBER);
     let active = device.active();
-    or_none(active.map(|command| u64::from(command.number())))
+    or_no_number(active.map(|command| u32::from(command.number())))
 }
 
 /// The number of steps that were stored.

@@ -1,22 +1,22 @@
 //! What stands in the device behind a handle: phases, configurations, and entries one by one. No
 //! read changes it.
 
-ghost use Rattle.std.specs.Prelude.{◌≡◌, ◌==◌, nat_lt, length};
+ghost use Rattle.std.specs.Prelude.{◌≡◌, ◌==◌, nat_lt, length, Some};
 ghost use Rattle.dsa_base.specs.Rows.{when};
 ghost use Rattle.dsa_regs.specs.Config.{queue_at, group_at};
 ghost use Rattle.dsa_store.specs.Content.{chain};
 ghost use Rattle.dsa_book.specs.State.{phase_at};
 ghost use Rattle.dsa_book.specs.Work.{in_progress, members, note_at};
 ghost use Rattle.dsa_device.specs.Reads.{awaited, is_held, entry_at};
-ghost use Rattle.dsa_c.specs.Calls.{IsReadAs, number_told, number_told_for};
-ghost use Rattle.dsa_c.specs.Reads.{IsWrittenForC, IsReadForC, bit_asked, phase_number, entries_of_list_for_c};
+ghost use Rattle.dsa_c.specs.Calls.{IsReadAs, number_told_for};
+ghost use Rattle.dsa_c.specs.Reads.{IsWrittenForC, IsReadForC, bit_asked, number_asked, phase_number, entries_of_list_for_c};
 ghost use Rattle.dsa_c.specs.Reads.{queue_for_c, entry_in_cell};
 ghost use Rattle.dsa_c.specs.Reads.{group_for_c, entry_for_c, batch_for_c};
 ghost use Rattle.dsa_c.specs.Answers.{bit_number};
 
 use crate::handle::{Handle, let_device};
-use crate::numbers::{NONE, OFF, ON, STOPPING};
-use crate::reads::or_none;
+use crate::numbers::{NO_NUMBER, NONE, OFF, ON, STOPPING};
+use crate::reads::{or_no_number, or_none};
 use crate::steps::{DeviceGroup, DeviceQueue};
 use dsa_book::{BatchNote, Ticket};
 use dsa_regs::{GroupConfig, ListUse, Phase, QueueConfig};
@@ -48,7 +48,7 @@ pub struct DeviceBatch {
     pub closed: u8,
 }
 
-fn phase_number(phase: Phase) -> u64
+fn phase_number(phase: Phase) -> u32
     ensures { result ≡ phase_number phase }
 {
     match phase {
@@ -153,23 +153,23 @@ fn write_entry(handle: &mut Handle, list: ListUse, place: u64, entry: &mut Devic
 
 /// The phase of the device.
 #[unsafe(no_mangle)]
-pub extern "C" fn dsa_phase(handle: &mut Handle) -> u64
-    ensures { IsReadAs (number_told (λ d. phase_number d.state.work.setup.device))
+pub extern "C" fn dsa_phase(handle: &mut Handle) -> u32
+    ensures { IsReadAs (number_asked (λ d. Some (phase_number d.state.work.setup.device)))
         handle.old.place.machine result handle.new.place.machine }
 {
-    let_device!(device, handle, NONE);
+    let_device!(device, handle, NO_NUMBER);
     phase_number(device.phase())
 }
 
 /// The phase of the queue.
 #[unsafe(no_mangle)]
-pub extern "C" fn dsa_queue_phase(handle: &mut Handle, queue: u16) -> u64
-    ensures { IsReadAs (number_told_for (λ d. when (nat_lt queue d.caps.queues)
+pub extern "C" fn dsa_queue_phase(handle: &mut Handle, queue: u16) -> u32
+    ensures { IsReadAs (number_asked (λ d. when (nat_lt queue d.caps.queues)
         (phase_number (phase_at d.state.work.setup queue))))
         handle.old.place.machine result handle.new.place.machine }
 {
-    let_device!(device, handle, NONE);
-    or_none(device.queue_phase(queue).map(phase_number))
+    let_device!(device, handle, NO_NUMBER);
+    or_no_number(device.queue_phase(queue).map(phase_number))
 }
 
 /// The configuration of the queue.

@@ -1,14 +1,14 @@
 //! Why the device behind a handle would answer an event as it does. Nothing changes.
 
-ghost use Rattle.std.specs.Prelude.{◌≡◌, ℕ, true, [], IfOk, drop, string_bytes};
+ghost use Rattle.std.specs.Prelude.{◌≡◌, ℕ, true, [], IfOk, drop, string_bytes, is_some};
 ghost use Rattle.std.specs.List.{list_any};
 ghost use Rattle.dsa_base.specs.Numbers.{numbers_below};
 ghost use Rattle.dsa_event_text.specs.Added.{Adds};
 ghost use Rattle.dsa_book.specs.declared.answer.Reply.TheVariants as reply;
 ghost use Rattle.dsa_book.specs.declared.answer.DispatchAnswer.{DispatchAnswer};
 ghost use Rattle.dsa_book.specs.declared.event.Event.TheVariants.{Dispatch};
-ghost use Rattle.dsa_book.specs.{Machine.{Reaches, may_follow}, Work.{qualifies}};
-ghost use Rattle.dsa_device.specs.Running.{Running};
+ghost use Rattle.dsa_book.specs.Work.{qualifies};
+ghost use Rattle.dsa_device.specs.Running.{Running, after_answer};
 ghost use Rattle.dsa_explain_lines.specs.Lines.{is_taken_by};
 ghost use Rattle.dsa_c.specs.Buffers.{with_text_for_c};
 ghost use Rattle.dsa_c.specs.Events.{event_from_c};
@@ -25,20 +25,27 @@ use dsa_explain_lines::add_part;
 use dsa_store::EntryStore;
 use std::alloc::{AllocError, Global};
 
+/// Whether the engine may take the front of the queue.
+pub(crate) fn may_take<S: EntryStore>(device: &Device<S>, engine: u16, queue: u16) -> bool
+    ensures { result ≡ qualifies device.now.state.work engine queue }
+{
+    device.offered(engine, queue).is_some()
+}
+
 // Whether the engine may take the front of a queue below this number.
 fn has_offer<S: EntryStore>(device: &Device<S>, engine: u16, queues: u16) -> bool
     ensures { result ≡ list_any (qualifies device.now.state.work engine) (numbers_below queues) }
 {
     for queue in 0..queues {
-        if device.offered(engine, queue).is_some() {
+        if may_take(device, engine, queue) {
             return true;
         }
     }
     false
 }
 
-// Whether the event is a dispatch that takes an entry.
-fn is_taking<S: EntryStore>(device: &Device<S>, event: &Event) -> bool
+/// Whether the event is a dispatch that takes an entry.
+pub(crate) fn is_taking<S: EntryStore>(device: &Device<S>, event: &Event) -> bool
     ensures { result ≡ is_taking device.now event.now }
 {
     device.state_is_replay();
@@ -54,9 +61,7 @@ fn is_taking<S: EntryStore>(device: &Device<S>, event: &Event) -> bool
 #[allow(dead_code)]
 fn dispatches_take_as_is_said()
     ensures { (now : Running) (engine : ℕ) (answer : DispatchAnswer)
-        → Reaches now.caps now.history now.state
-        → may_follow now.caps now.capacity now.history
-        (record { event = Dispatch engine; reply = reply.Dispatch answer }) ≡ true
+        → is_some (after_answer now (Dispatch engine) (reply.Dispatch answer)) ≡ true
         → is_taking now (Dispatch engine) ≡ is_taken_by (reply.Dispatch answer) }
 {}
 

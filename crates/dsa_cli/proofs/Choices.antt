@@ -1,8 +1,12 @@
 -- What options choose that have no value.
 use Rattle.std.proofs.Common.{◌≡◌, ◌∙◌, ℕ, Bool, true, false, List, [], Option, Some, unwrap_or, codes, length}
-use Rattle.std.proofs.Common.{refl, sym, ap, subst, arith}
+use Rattle.std.proofs.Common.{refl, sym, ap, subst, arith, inl, inr}
+use Rattle.std.proofs.lemmas.Bool.{cases_lt}
 use Rattle.clap.specs.Walk.{Row, Text, one_of}
-use Rattle.dsa_cli.specs.CommandLine.{IsChosenBy, IsGivenElse}
+use Rattle.dsa_cli.specs.CommandLine.{IsCheckFormOf, IsChosenBy, IsFormOf, IsGivenElse, IsWrittenIn}
+use Rattle.dsa_cli.specs.declared.reports.Written.{Written, TheVariants.{Strict, Friendly}}
+use Rattle.dsa_check.specs.declared.checking.CheckForm.TheVariants.{Lines}
+use Rattle.dsa_trace.specs.declared.form.Trace.TheVariants.{Table}
 
 -- how long the text of an option is
 abbrev text_length : Option Text → ℕ
@@ -23,6 +27,23 @@ when_left_out has = record {
   left_out = λ again. refl;
 }
 
+-- one of two is chosen, whatever is given
+pub any_writing : (rows : List Row) (IsSo : Written → Type 0) → ((written : Written) → IsSo written)
+    → (written : Written) × IsWrittenIn rows written × IsSo written
+any_writing rows IsSo all =
+    elim (cases_lt 4 (text_length (one_of (codes "friendly") rows))) [
+      | inl long ↦ (
+        Strict,
+        record { given = λ has. absurd (omega (arith, ap text_length has, long)); left_out = λ out. refl },
+        all Strict,
+      )
+      | inr short ↦ (
+        Friendly,
+        record { given = λ has. refl; left_out = λ out. absurd (omega (arith, ap text_length out, short)) },
+        all Friendly,
+      )
+    ]
+
 pub first_given : {A : Type 0} {rows : List Row} {name : Text} {form : A} {IsSo : A → Type 0}
     → one_of name rows ≡ Some (codes "true") → IsGivenElse rows name form IsSo form
 first_given has = record {
@@ -36,6 +57,18 @@ first_left_out out so = record {
   given = λ has. absurd (omega (arith, ap text_length (sym out ∙ has)));
   left_out = λ again. so;
 }
+
+-- no option asks for a form of a check, or for one of a trace
+pub lines_form : {rows : List Row} → one_of (codes "json") rows ≡ Some (codes "false")
+    → one_of (codes "color") rows ≡ Some (codes "false") → one_of (codes "source") rows ≡ Some (codes "false")
+    → IsCheckFormOf rows Lines
+lines_form json color source = first_left_out json (first_left_out color (first_left_out source refl))
+
+pub table_form : {rows : List Row} → one_of (codes "chrome") rows ≡ Some (codes "false")
+    → one_of (codes "json") rows ≡ Some (codes "false") → one_of (codes "changes") rows ≡ Some (codes "false")
+    → one_of (codes "wide") rows ≡ Some (codes "false") → IsFormOf rows (Some Table)
+table_form chrome json changes wide =
+    first_left_out chrome (first_left_out json (first_left_out changes (first_left_out wide refl)))
 
 -- the first of some options that was found is this one, or a later one
 pub first_here : {A : Type 0} {rows : List Row} {name : Text} {found : Bool} {form : A} {IsSo : A → Type 0}

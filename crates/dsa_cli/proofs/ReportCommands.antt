@@ -2,7 +2,7 @@
 use Rattle.dsa_cli.specs.declared.options.Asked.TheVariants as asked
 use Rattle.dsa_cli.specs.declared.reports.Report.TheVariants as report
 use Rattle.std.proofs.Common.{◌≡◌, ◌<◌, ◌≤◌, ◌∙◌, ◌⊎◌, inl, inr, ℕ, List, Some, None, codes, option_map}
-use Rattle.std.proofs.Common.{get_or, refl}
+use Rattle.std.proofs.Common.{get_or, refl, Result, Ok}
 use Rattle.std.proofs.Common.{[], Option, unwrap_or, sym, ap, subst, arith}
 use Rattle.std.specs.{Option.{option_map_or}, Str.Parse.{digits_value, without_leading_plus}}
 use Rattle.clap.specs.Walk.{Row, Text}
@@ -10,11 +10,11 @@ use Rattle.dsa_cli.specs.declared.{options.{Asked.{Asked}, Workload.{Workload}},
 use Rattle.dsa_cli.specs.declared.options.WrongValue.{WrongValue, TheVariants.{Answer, Range}}
 use Rattle.dsa_draw.specs.Ranges.{all_steps, range_of_text}
 use Rattle.dsa_cli.specs.CommandLine.{AreNumbersOf, AskWrongValue, AsksBy, AsksFor, IsAskedBy}
-use Rattle.dsa_cli.specs.CommandLine.{IsNumberOf, IsReportName, IsWrongIn, NameNothing}
+use Rattle.dsa_cli.specs.CommandLine.{IsNumberOf, IsWrongIn, NameNothing}
 use Rattle.dsa_cli.specs.CommandLine.{NameReport, unknown_answer_text, unknown_range_text, wrong_value_text}
-use Rattle.dsa_cli.specs.CommandLine.{NameThreads, SayHighThreshold, SaysNumber, command_in}
+use Rattle.dsa_cli.specs.CommandLine.{NameServe, NameThreads, SayHighThreshold, SaysNumber, command_in}
 use Rattle.dsa_cli.specs.{Reports.{text_if_too_long}, Threads.{IsAskedInRange}}
-use Rattle.dsa_cli.proofs.ReportNames.{same_first}
+use Rattle.dsa_cli.proofs.ReportNames.{name_in, same_first, same_second, no_threads}
 
 -- a command is named, or none
 no_name : (words : List Text) (name : Text) → NameNothing words → command_in words ≡ Some name → ⊥
@@ -36,17 +36,20 @@ names_nothing words (asked.Report report) nothing is =
     absurd (no_name words is.0.0 nothing (ap (option_map (λ (f : Text × List Row). f.0)) is.1.1))
 names_nothing words (asked.WrongValue value) nothing is =
     absurd (no_name words is.0.0 nothing (ap (option_map (λ (f : Text × List Row). f.0)) is.1.1))
-names_nothing words asked.Serve nothing is = absurd (no_name words (codes "serve") nothing is.1)
+names_nothing words (asked.Serve written) nothing is =
+    absurd (no_name words (codes "serve") nothing (ap (option_map (λ (f : Text × List Row). f.0)) is.1.1))
 names_nothing words (asked.Threads load) nothing is =
     absurd (no_name words (codes "threads") nothing (ap (option_map (λ (f : Text × List Row). f.0)) is.1.1))
 names_nothing words (asked.HighThreshold load) nothing is =
     absurd (no_name words (codes "threads") nothing (ap (option_map (λ (f : Text × List Row). f.0)) is.0.1.1))
 
 -- words that are none, or name nothing, ask for nothing else
-pub not_asked : {A : Type 0} (words : List Text) (count : ℕ) (asks is : Asked) → AsksFor words asks
-    → (count ≡ 0 → asks ≡ asked.Scenario) → asks ≡ is → ¬ (is ≡ asked.Scenario)
+pub not_asked : {A E : Type 0} (words : List Text) (count : ℕ) (asks is : Asked) → AsksFor words asks
+    → (count ≡ 0 → ◌≡◌ {A = Result Asked E} (Ok asks) (Ok asked.Scenario)) → asks ≡ is → ¬ (is ≡ asked.Scenario)
     → (count ≡ 0) ⊎ NameNothing words → A
-not_asked words count asks is told none same other (inl empty) = absurd (other (sym same ∙ none empty))
+not_asked words count asks is told none same other (inl empty) =
+    let scenario = none empty in
+    absurd (other cc)
 not_asked words count asks is told none same other (inr nothing) =
     absurd (other (sym same ∙ names_nothing words asks nothing told))
 
@@ -56,10 +59,6 @@ named words count some (inl empty) = absurd (some empty)
 named words count some (inr nothing) = nothing
 
 -- ---- words that name a command that asks for a report
-
--- the name of a command
-abbrev name_in : Option (Text × List Row) → Text
-name_in found = unwrap_or (option_map (λ (p : Text × List Row). p.0) found) []
 
 -- they ask for what the command asks for
 pub asks_by : (words : List Text) (found : Text × List Row) → NameReport words found → (asks : Asked)
@@ -84,7 +83,8 @@ no_report_of found (Answer word) (report.Trace form run) wrong by = omega (arith
 no_report_of found (Answer word) (report.Chrome run) wrong by = omega (arith, same_first (sym wrong.0 ∙ by.0))
 no_report_of found (Answer word) report.Count wrong by = omega (arith, same_first (sym wrong.0 ∙ by))
 no_report_of found (Answer word) (report.Draw drawing run) wrong by = omega (arith, same_first (sym wrong.0 ∙ by.0))
-no_report_of found (Answer word) (report.Conform conformance written) wrong by = omega (arith, same_first (sym wrong.0 ∙ by.0))
+no_report_of found (Answer word) (report.Conform conformance written) wrong by =
+    omega (arith, same_first (sym wrong.0 ∙ by.0))
 no_report_of found (Answer word) report.Expand wrong by =
     let both : codes "explain" ≡ codes "expand" = sym wrong.0 ∙ by in
     cc
@@ -97,7 +97,8 @@ no_report_of found (Range text) (report.Draw drawing run) wrong by =
     let none : None ≡ Some drawing.steps =
     sym (ap (λ o. option_map_or range_of_text o (Some all_steps)) wrong.1 ∙ wrong.2) ∙ by.1 in
     cc
-no_report_of found (Range text) (report.Conform conformance written) wrong by = omega (arith, same_first (sym wrong.0 ∙ by.0))
+no_report_of found (Range text) (report.Conform conformance written) wrong by =
+    omega (arith, same_first (sym wrong.0 ∙ by.0))
 no_report_of found (Range text) report.Expand wrong by = omega (arith, same_first (sym wrong.0 ∙ by))
 
 -- what the words name, where a value is wrong
@@ -128,10 +129,9 @@ asks_wrong words (asked.Report report) value wrong is =
 asks_wrong words (asked.WrongValue given) value wrong is =
     let same = same_found words is.0 wrong.0 is.1 wrong.1 in
     (given, refl, same_text wrong.0 given value (subst (λ f. IsWrongIn f given) same is.2) wrong.2)
-asks_wrong words asked.Serve value wrong is =
-    let name : codes "serve" ≡ wrong.0.0 =
-    ap (λ o. unwrap_or o []) (sym is.1 ∙ ap (option_map (λ (f : Text × List Row). f.0)) wrong.1.1) in
-    absurd (no_other_name wrong.0 value (codes "serve") (omega arith) wrong.2 name)
+asks_wrong words (asked.Serve written) value wrong is =
+    absurd (no_other_name wrong.0 value (codes "serve") (omega arith) wrong.2
+    (ap name_in (sym is.1.1 ∙ wrong.1.1)))
 asks_wrong words (asked.Threads load) value wrong is =
     absurd (no_other_name wrong.0 value (codes "threads") (omega arith) wrong.2
     (ap name_in (sym is.1.1 ∙ wrong.1.1)))
@@ -141,10 +141,6 @@ asks_wrong words (asked.HighThreshold load) value wrong is =
 
 -- ---- words that name `threads`
 
--- the second character of a text
-abbrev second : Text → ℕ
-second text = get_or text 1 0
-
 -- `check` asks for no report that has no text of a document that is too long
 pub other_name : (found : Text × List Row) (report : Report) → IsAskedBy found report
     → text_if_too_long report ≡ None → found.0 ≡ codes "check" → ⊥
@@ -152,38 +148,10 @@ other_name found (report.Check check) by none same = cc
 other_name found (report.Explain selection run) by none same = omega (arith, same_first (sym by.0 ∙ same))
 other_name found (report.Trace form run) by none same = omega (arith, same_first (sym by.0 ∙ same))
 other_name found (report.Chrome run) by none same = omega (arith, same_first (sym by.0 ∙ same))
-other_name found report.Count by none same = omega (arith, ap second (sym by ∙ same))
+other_name found report.Count by none same = omega (arith, same_second (sym by ∙ same))
 other_name found (report.Draw drawing run) by none same = omega (arith, same_first (sym by.0 ∙ same))
-other_name found (report.Conform conformance written) by none same = omega (arith, ap second (sym by.0 ∙ same))
+other_name found (report.Conform conformance written) by none same = omega (arith, same_second (sym by.0 ∙ same))
 other_name found report.Expand by none same = omega (arith, same_first (sym by ∙ same))
-
--- `threads` is no command that asks for a report
-no_report : (name : Text) → second name ≡ 104 → get_or name 0 0 ≡ 116 → IsReportName name → ⊥
-no_report name two one named =
-    elim named [
-      | inl check ↦ omega (arith, ap (λ (text : Text). get_or text 0 0) check, one)
-      | inr rest ↦
-          elim rest [
-            | inl explain ↦ omega (arith, ap second explain, two)
-            | inr rest ↦
-                elim rest [
-                  | inl trace ↦ omega (arith, ap second trace, two)
-                  | inr rest ↦
-                      elim rest [
-                        | inl count ↦ omega (arith, ap second count, two)
-                        | inr rest ↦
-                            elim rest [
-                              | inl draw ↦ omega (arith, ap second draw, two)
-                              | inr rest ↦
-                                  elim rest [
-                                    | inl conform ↦ omega (arith, ap second conform, two)
-                                    | inr expand ↦ omega (arith, ap second expand, two)
-                                  ]
-                            ]
-                      ]
-                ]
-          ]
-    ]
 
 -- they name it whatever their matches are
 command : (words : List Text) (rows : List Row) → NameThreads words rows → command_in words ≡ Some (codes "threads")
@@ -214,14 +182,13 @@ asks_high words asked.Scenario rows named high is range =
     absurd (is (codes "threads") (inr (inr refl)) (command words rows named))
 asks_high words (asked.Report report) rows named high is range =
     let name : codes "threads" ≡ is.0.0 = ap name_in (sym named.1 ∙ is.1.1) in
-    absurd (no_report is.0.0 (ap second (sym name)) (ap (λ (text : Text). get_or text 0 0) (sym name)) is.1.2)
+    absurd (no_threads is.0.0 (sym (same_first name)) (sym (same_second name)) is.1.2)
 asks_high words (asked.WrongValue value) rows named high is range =
     let name : codes "threads" ≡ is.0.0 = ap name_in (sym named.1 ∙ is.1.1) in
-    absurd (no_report is.0.0 (ap second (sym name)) (ap (λ (text : Text). get_or text 0 0) (sym name)) is.1.2)
-asks_high words asked.Serve rows named high is range =
-    let name : codes "threads" ≡ codes "serve" =
-    ap (λ o. unwrap_or o []) (sym (command words rows named) ∙ is.1) in
-    absurd (omega (arith, ap second name))
+    absurd (no_threads is.0.0 (sym (same_first name)) (sym (same_second name)) is.1.2)
+asks_high words (asked.Serve written) rows named high is range =
+    let name : codes "threads" ≡ codes "serve" = ap name_in (sym named.1 ∙ is.1.1) in
+    absurd (omega (arith, same_second name))
 asks_high words (asked.Threads load) rows named high is range =
     let same = same_rows words rows is.0 named is.1 in
     let numbers : AreNumbersOf rows load = subst (λ r. AreNumbersOf r load) same is.2 in
@@ -229,3 +196,8 @@ asks_high words (asked.Threads load) rows named high is range =
     let threshold = said rows (codes "threshold") 1 1_024 load.threshold high.1 numbers.threshold high.3 in
     absurd (omega (arith, range.threshold, size, threshold, high.4))
 asks_high words (asked.HighThreshold load) rows named high is range = (load, refl)
+
+-- words that name a dialogue have one list of matches
+pub same_dialogue : (words : List Text) (rows others : List Row) → NameServe words rows → NameServe words others
+    → rows ≡ others
+same_dialogue words rows others named other = ap rows_in (sym named.1 ∙ other.1)

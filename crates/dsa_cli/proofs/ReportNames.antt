@@ -1,36 +1,41 @@
--- Words that are not the names of commands that ask for a report.
-use Rattle.std.proofs.Common.{◌≡◌, ◌<◌, ◌⊎◌, inl, inr, ℕ, List, codes, get_or, ap, arith}
+-- The names of commands that ask for a report, and words that are none.
+use Rattle.std.proofs.Common.{◌≡◌, ◌<◌, ◌⊎◌, inl, inr, ℕ, List, [], Option, get_or, unwrap_or, option_map, ap, arith}
+use Rattle.clap.specs.Walk.{Row, Text}
+use Rattle.dsa_cli.specs.CommandLine.{IsReportName}
 
--- the first characters of two texts that are the same
+-- the name of a command
+abbrev pub name_in : Option (Text × List Row) → Text
+name_in found = unwrap_or (option_map (λ (p : Text × List Row). p.0) found) []
+
+-- the first characters of two texts that are the same, and the second ones
 pub same_first : {s t : List ℕ} → s ≡ t → get_or s 0 0 ≡ get_or t 0 0
 same_first same = ap (λ (text : List ℕ). get_or text 0 0) same
 
--- a word that begins with a letter from `h` to `s` is none of them
-pub no_report : (word : List ℕ) → 103 < get_or word 0 0 → get_or word 0 0 < 116
-    → (word ≡ codes "check") ⊎ (word ≡ codes "explain") ⊎ (word ≡ codes "trace") ⊎ (word ≡ codes "count")
-    ⊎ (word ≡ codes "draw") ⊎ (word ≡ codes "conform") ⊎ (word ≡ codes "expand") → ⊥
+pub same_second : {s t : List ℕ} → s ≡ t → get_or s 1 0 ≡ get_or t 1 0
+same_second same = ap (λ (text : List ℕ). get_or text 1 0) same
+
+-- a name begins with a letter before `h`, or with `tr`
+letters : (word : List ℕ) → IsReportName word
+    → (get_or word 0 0 < 104) ⊎ ((get_or word 0 0 ≡ 116) × (get_or word 1 0 ≡ 114))
+letters word (inl check) = inl (omega (arith, same_first check))
+letters word (inr (inl explain)) = inl (omega (arith, same_first explain))
+letters word (inr (inr (inl trace))) = inr (same_first trace, same_second trace)
+letters word (inr (inr (inr (inl count)))) = inl (omega (arith, same_first count))
+letters word (inr (inr (inr (inr (inl draw))))) = inl (omega (arith, same_first draw))
+letters word (inr (inr (inr (inr (inr (inl conform)))))) = inl (omega (arith, same_first conform))
+letters word (inr (inr (inr (inr (inr (inr expand)))))) = inl (omega (arith, same_first expand))
+
+-- a word that begins with a letter from `h` to `s` is none of them, and none that begins with `th`
+pub no_report : (word : List ℕ) → 103 < get_or word 0 0 → get_or word 0 0 < 116 → IsReportName word → ⊥
 no_report word low high named =
-    elim named [
-      | inl check ↦ omega (arith, same_first check, low)
-      | inr rest ↦
-          elim rest [
-            | inl explain ↦ omega (arith, same_first explain, low)
-            | inr rest ↦
-                elim rest [
-                  | inl trace ↦ omega (arith, same_first trace, high)
-                  | inr rest ↦
-                      elim rest [
-                        | inl count ↦ omega (arith, same_first count, low)
-                        | inr rest ↦
-                            elim rest [
-                              | inl draw ↦ omega (arith, same_first draw, low)
-                              | inr rest ↦
-                                  elim rest [
-                                    | inl conform ↦ omega (arith, same_first conform, low)
-                                    | inr expand ↦ omega (arith, same_first expand, low)
-                                  ]
-                            ]
-                      ]
-                ]
-          ]
+    elim (letters word named) [
+      | inl first ↦ omega (arith, first, low)
+      | inr both ↦ omega (arith, both.0, high)
+    ]
+
+pub no_threads : (word : List ℕ) → get_or word 0 0 ≡ 116 → get_or word 1 0 ≡ 104 → IsReportName word → ⊥
+no_threads word one two named =
+    elim (letters word named) [
+      | inl first ↦ omega (arith, first, one)
+      | inr both ↦ omega (arith, both.1, two)
     ]

@@ -2,11 +2,11 @@
 use Rattle.dsa_cli.specs.declared.reports.Report.TheVariants as report
 use Rattle.dsa_cli.specs.declared.options.Asked.TheVariants as asked
 use Rattle.dsa_check.specs.declared.checking.CheckForm.TheVariants as check_form
-use Rattle.std.specs.Prelude.{◌≡◌, ◌≢◌, ◌⊎◌, ◌<◌, ◌≤◌, ℕ, pos, true, false, List, [], ◌∷◌, ◌++◌}
+use Rattle.std.specs.Prelude.{◌≡◌, ◌≢◌, ◌⊎◌, ◌<◌, ◌≤◌, ℕ, pos, Bool, true, false, List, [], ◌∷◌, ◌++◌}
 use Rattle.std.specs.Prelude.{length, take, fold, codes, decimal}
 use Rattle.std.specs.Prelude.{Option, Some, None, option_and_then, option_map}
 use Rattle.std.specs.{List.{join_by}, Option.{option_map_or}}
-use Rattle.std.specs.Io.KnownBytes.{Consumes, IsAtEnd, Appends}
+use Rattle.std.specs.Io.KnownBytes.{Appends}
 use Rattle.std.specs.Str.Parse.{IsNumeral, digits_value, without_leading_plus}
 use Rattle.clap.specs.declared.builder.action.ArgAction.TheVariants.{SetTrue}
 use Rattle.clap.specs.declared.builder.value_parser.ValueParser.TheVariants.{Signed}
@@ -23,7 +23,7 @@ use Rattle.dsa_check.specs.declared.checking.CheckForm.TheVariants.{Lines, Sourc
 use Rattle.dsa_conform.specs.declared.rendering.Conformance.{Conformance}
 use Rattle.dsa_draw.specs.{declared.range.StepRange.{StepRange}, Ranges.{all_steps, range_of_text}}
 use Rattle.dsa_chosen.specs.{declared.selection.Selection.{Selection}, Words.{answer_words, unknown_word}}
-use Rattle.dsa_serve.specs.Dialogue.{AnswersAll, IsLate, IsStopped}
+use Rattle.dsa_serve.specs.Dialogue.{IsAllAnswered, IsLate, IsStopped}
 use Rattle.dsa_cli.specs.Reports.{IsReported, IsReportCutShort, IsReportBegun}
 use Rattle.dsa_cli.specs.declared.reports.{Report.{Report}, Run.{Run, TheVariants.{Own, Seen}}}
 use Rattle.dsa_cli.specs.declared.reports.Written.{Written, TheVariants.{Strict, Friendly}}
@@ -79,6 +79,9 @@ draw_app = command_app (codes "draw") (text_rule (codes "steps") ∷ flag_rule (
 abbrev pub conform_app : App
 conform_app = command_app (codes "conform") (flag_rule (codes "all") ∷ flag_rule (codes "friendly") ∷ [])
 
+abbrev pub serve_app : App
+serve_app = command_app (codes "serve") (flag_rule (codes "friendly") ∷ [])
+
 abbrev pub check_app : App
 check_app = command_app (codes "check") (
     flag_rule (codes "json") ∷ flag_rule (codes "source") ∷ flag_rule (codes "color") ∷
@@ -92,7 +95,7 @@ top_app = on_top (λ top. record top { no_binary_name = true; has_version = true
 abbrev pub program_app : App
 program_app = fold (λ program command. with_subcommand program command.top) top_app (
     check_app ∷ explain_app ∷ trace_app ∷ command_app (codes "count") [] ∷ draw_app ∷ conform_app ∷
-    command_app (codes "expand") [] ∷ command_app (codes "serve") [] ∷ threads_app ∷ [])
+    command_app (codes "expand") [] ∷ serve_app ∷ threads_app ∷ [])
 
 -- what clap finds wrong with the words, if anything; to ask for help counts too
 abbrev pub faults_of_words : List Text → Kinds
@@ -198,7 +201,8 @@ pub record IsCheckOf (rows : List Row) (check : Check) : Type 0 where
 abbrev pub IsConformanceChosen : List Row → Conformance → Type 0
 IsConformanceChosen rows conformance = IsChosenBy rows (codes "all") true false conformance.is_all
 
--- the document is written as `expand` reads it where the option `--friendly` asks for that
+-- the document, or what comes behind it in a dialogue, is written as `expand` reads it where the option `--friendly`
+-- asks for that
 abbrev pub IsWrittenIn : List Row → Written → Type 0
 IsWrittenIn rows written = IsChosenBy rows (codes "friendly") Friendly Strict written
 
@@ -276,20 +280,33 @@ command_in words = option_map (λ found. found.0) (subcommand_of program_app wor
 abbrev pub NameNothing : List Text → Type 0
 NameNothing words = (faults_of_words words ≡ []) × (command_in words ≡ None)
 
--- the words name the command `serve`, and nothing is wrong with them
-abbrev pub NameServe : List Text → Type 0
-NameServe words = (faults_of_words words ≡ []) × (command_in words ≡ Some (codes "serve"))
+-- the words name the command `serve`, whose options have these matches, and nothing is wrong with them
+abbrev pub NameServe : List Text → List Row → Type 0
+NameServe words rows = (faults_of_words words ≡ []) × (subcommand_of program_app words ≡ Some (codes "serve", rows))
 
--- the reader gave all of a dialogue, and all answers to it were written
-abbrev pub IsServed : Option (List ℕ) → Option (List ℕ) → Option (List ℕ) → Option (List ℕ) → Type 0
-IsServed had left held holds = (input : List ℕ) × (output : List ℕ) × Consumes had left input × IsAtEnd left
-    × AnswersAll input output × Appends held holds output
+abbrev pub has_friendly_form : Written → Bool
+has_friendly_form Friendly = true
+has_friendly_form Strict = false
+
+-- the reader gave all of a dialogue whose lines are written so, and all answers to it were written
+abbrev pub IsServedIn : Written → Option (List ℕ) → Option (List ℕ) → Option (List ℕ) → Option (List ℕ) → Type 0
+IsServedIn written had left held holds = IsAllAnswered (has_friendly_form written) had left held holds
 
 -- a fault stopped it: where it is none that may come late, before anything was written
-abbrev pub IsServeStopped : {W : Type 0} → ScenarioFault → Option (List ℕ) → Option (List ℕ)
+abbrev pub IsServeStoppedIn : {W : Type 0} → Written → ScenarioFault → Option (List ℕ) → Option (List ℕ)
     → (W → Option (List ℕ)) → W → W → Type 0
-IsServeStopped fault had left contents old new =
-    IsStopped fault had left (contents old) (contents new) × (¬ IsLate fault → new ≡ old)
+IsServeStoppedIn written fault had left contents old new =
+    IsStopped (has_friendly_form written) fault had left (contents old) (contents new) × (¬ IsLate fault → new ≡ old)
+
+-- the same of a dialogue whose lines are written as the options with these matches say
+abbrev pub IsServed : List Row → Option (List ℕ) → Option (List ℕ) → Option (List ℕ) → Option (List ℕ) → Type 0
+IsServed rows had left held holds =
+    (written : Written) × IsWrittenIn rows written × IsServedIn written had left held holds
+
+abbrev pub IsServeStopped : {W : Type 0} → List Row → ScenarioFault → Option (List ℕ) → Option (List ℕ)
+    → (W → Option (List ℕ)) → W → W → Type 0
+IsServeStopped rows fault had left contents old new =
+    (written : Written) × IsWrittenIn rows written × IsServeStoppedIn written fault had left contents old new
 
 -- the words ask for no input: something is wrong with them, or they name `threads`; to ask for help counts too
 abbrev pub AskNoInput : List Text → Type 0
@@ -337,6 +354,6 @@ AsksFor words Scenario = (name : Text) → IsReportName name ⊎ (name ≡ codes
     → command_in words ≢ Some name
 AsksFor words (asked.Report report) = (found : Text × List Row) × NameReport words found × IsAskedBy found report
 AsksFor words (asked.WrongValue value) = AskWrongValue words value
-AsksFor words Serve = NameServe words
+AsksFor words (Serve written) = (rows : List Row) × NameServe words rows × IsWrittenIn rows written
 AsksFor words (Threads load) = AskForWorkers words load
 AsksFor words (HighThreshold load) = AskHighThreshold words load

@@ -19,7 +19,8 @@ use Rattle.dsa_draw.specs.Drawings.{IsDrawnOf}
 use Rattle.dsa_expand.specs.{Expansion.{IsExpansion}, Friendly.{IsMadeOfFriendly}}
 use Rattle.dsa_cli.specs.declared.reports.{Report.{Report}, Run.{Run, TheVariants.{Own, Seen}}}
 use Rattle.dsa_cli.specs.declared.reports.Written.{Written, TheVariants.{Strict, Friendly}}
-use Rattle.dsa_cli.specs.declared.reports.Report.TheVariants.{Check, Explain, Trace, Chrome, Count, Draw, Conform, Expand}
+use Rattle.dsa_cli.specs.declared.reports.Report.TheVariants.{Check, Explain, Trace, Chrome, Count}
+use Rattle.dsa_cli.specs.declared.reports.Report.TheVariants.{Draw, Conform, Expand}
 
 -- the text, and the fault that is told after it, are made of this run of a document (profile)
 abbrev pub IsMadeOfRun : Run → (List Visit → Running → List ℕ → Type 0) → List ℕ → Option ScenarioFault → List ℕ

@@ -57,7 +57,7 @@ abbrev pub IsAskedInRange : Asked → Type 0
 IsAskedInRange Scenario = ⊤
 IsAskedInRange (Report report) = ⊤
 IsAskedInRange (WrongValue value) = ⊤
-IsAskedInRange Serve = ⊤
+IsAskedInRange (Serve written) = ⊤
 IsAskedInRange (Threads load) = IsInRange load
 IsAskedInRange (HighThreshold load) = ⊤
 

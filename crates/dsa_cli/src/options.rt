@@ -10,7 +10,7 @@ ghost use Rattle.clap.specs.declared.builder.command.Command.TheViews.{out-Comma
 ghost use Rattle.dsa_cli.specs.Threads.{IsInRange, IsAskedInRange};
 ghost use Rattle.dsa_cli.specs.CommandLine.{text_rule, number_rule, default_rule, flag_rule};
 ghost use Rattle.dsa_cli.specs.CommandLine.{check_app, explain_app, trace_app, draw_app};
-ghost use Rattle.dsa_cli.specs.CommandLine.{conform_app, threads_app, top_app, program_app};
+ghost use Rattle.dsa_cli.specs.CommandLine.{conform_app, serve_app, threads_app, top_app, program_app};
 ghost use Rattle.dsa_cli.specs.CommandLine.{IsNumberOf, IsNumberGiven, AreNumbersOf};
 ghost use Rattle.dsa_cli.specs.CommandLine.{IsChosenBy, IsFormOf, IsGivenElse, IsRunChosen, IsCheckOf};
 ghost use Rattle.dsa_cli.specs.CommandLine.{IsAskedBy, IsReportName, AsksBy, AsksFor};
@@ -68,8 +68,9 @@ pub enum Asked<'a> {
     Report(Report<'a>),
     /// A report with this value of an option, which is a usage error.
     WrongValue(WrongValue<'a>),
-    /// A dialogue: a scenario in the first line of standard input, and then a request in each line.
-    Serve,
+    /// A dialogue: a scenario in the first line of standard input, and then a request in each line,
+    /// written so.
+    Serve(Written),
     /// Workers in threads.
     Threads(Workload),
     /// Such workers with a threshold above the size, which is a usage error.
@@ -175,8 +176,11 @@ step from each line. Each step is made as it comes, on one model of a device, an
 with its line before the next is read; after the document's own steps comes the line
 \"ready N\" with their number. {\"do\": \"show\"} is answered with the state of the device,
 and {\"do\": \"fates\"} with what became of the descriptors that ended since the last such line.
+{\"do\": \"begin-anew\"} empties the history, so that a run may go on after \"full\"; names and
+the state stay. {\"do\": \"begin-anew-without-fates\"} also forgets what became of descriptors.
 Any other line is answered with its fault and the reason, and changes nothing. At the end of
-input comes a line for each descriptor that ended.
+input comes a line for each descriptor that ended. With --friendly the document and the lines
+after it may have steps in the friendly form, as expand reads them.
 
 Exit status: 0 done, 1 a fault (its line goes to standard error), 2 a usage error.";
 
@@ -419,13 +423,21 @@ fn conform_command<'a>(alloc: Global) -> Result<Command<'a>, AllocError>
     )
 }
 
+fn serve_command<'a>(alloc: Global) -> Result<Command<'a>, AllocError>
+    ensures app { IfOk result (λ c. app_of c ≡ serve_app) }
+    ensures local { IfOk result (λ c. (fields_of c).has_globals ≡ false) }
+{
+    let about = "What does the device answer to my next step?";
+    let command = plain_command(alloc, "serve", about, SERVE_HELP);
+    with_flag(alloc, command, "friendly", "Read steps that expand reads")
+}
+
 fn command_line<'a>(alloc: Global) -> Result<Command<'a>, AllocError>
     ensures { IfOk result (λ c. app_of c ≡ program_app) }
 {
     let count = "How many were turned away and why, how full did it get, \
         how long did commands wait?";
     let expand = "Which scenario document does a friendly one mean?";
-    let serve = "What does the device answer to my next step?";
     top_command(alloc)?
         .subcommand(check_command(alloc)?)?
         .subcommand(explain_command(alloc)?)?
@@ -434,7 +446,7 @@ fn command_line<'a>(alloc: Global) -> Result<Command<'a>, AllocError>
         .subcommand(draw_command(alloc)?)?
         .subcommand(conform_command(alloc)?)?
         .subcommand(plain_command(alloc, "expand", expand, EXPAND_HELP))?
-        .subcommand(plain_command(alloc, "serve", serve, SERVE_HELP))?
+        .subcommand(serve_command(alloc)?)?
         .subcommand(threads_command(alloc)?)
 }
 
@@ -554,7 +566,7 @@ fn conformance_of(given: &ArgMatches<'_>) -> Conformance
     }
 }
 
-// The form of the document that the option of `conform` names.
+// The form of a document, or of what comes behind it, that the option `--friendly` names.
 fn written_in(given: &ArgMatches<'_>) -> Written
     ensures { IsWrittenIn (rows_of (found_of given.now)) result }
 {
@@ -699,8 +711,8 @@ pub fn read_words<'a>(alloc: Global, words: &'a [String]) -> Result<Asked<'a>, E
     if let Some(asked) = report_asked(&matches) {
         return Ok(asked);
     }
-    if is_named(&matches, "serve") {
-        return Ok(Asked::Serve);
+    if let Some(given) = matches.subcommand_matches("serve") {
+        return Ok(Asked::Serve(written_in(given)));
     }
     Ok(Asked::Scenario)
 }

@@ -3,6 +3,7 @@
 ghost use Rattle.std.specs.Prelude.{◌≡◌, ◌⊎◌, IfOk, IfErr, option_map, string_bytes};
 ghost use Rattle.dsa_scenario.specs.Document.{IsFaultOf};
 ghost use Rattle.dsa_scenario.specs.declared.faults.ScenarioFault.{ScenarioFault};
+ghost use Rattle.dsa_cli.specs.CommandLine.{has_friendly_form};
 ghost use Rattle.dsa_cli.specs.Reports.{IsMadeOfRun, IsNamedOfRun, IsReportOf};
 ghost use Rattle.dsa_cli.specs.Reports.{streamed_form, text_if_too_long};
 
@@ -36,6 +37,18 @@ pub enum Written {
     Strict,
     /// As `expand` reads it.
     Friendly,
+}
+
+impl Written {
+    /// Whether it is as `expand` reads it.
+    pub fn is_friendly(self) -> bool
+        ensures { result ≡ has_friendly_form self }
+    {
+        match self {
+            Written::Strict => false,
+            Written::Friendly => true,
+        }
+    }
 }
 
 /// What is made of a document in place of its lines.

@@ -7,7 +7,7 @@ ghost use Rattle.dsa_desc.specs.declared.Outcome.TheVariants.{Success};
 ghost use Rattle.dsa_regs.specs.declared.Caps.{Caps};
 ghost use Rattle.dsa_regs.specs.declared.Command.TheVariants.{EnableDevice, EnableWq};
 ghost use Rattle.dsa_book.specs.declared.answer.Reply.TheVariants as reply;
-ghost use Rattle.dsa_book.specs.declared.answer.WriteAnswer.TheVariants.{Written};
+ghost use Rattle.dsa_book.specs.declared.answer.WriteAnswer.TheVariants as write_answer;
 ghost use Rattle.dsa_book.specs.declared.answer.IssueAnswer.TheVariants.{Ended};
 ghost use Rattle.dsa_book.specs.declared.event.Step.{Step};
 ghost use Rattle.dsa_book.specs.declared.event.Event.TheVariants.{Submit, Issue, WriteQueue};
@@ -42,6 +42,7 @@ ghost use Rattle.clap.specs.declared.error.kind.ErrorKind.TheVariants.{DisplayHe
 ghost use Rattle.dsa_cli.specs.declared.reports.Report.TheVariants.{Check, Expand, Explain, Trace, Count};
 ghost use Rattle.dsa_cli.specs.declared.reports.Report.TheVariants.{Chrome, Draw, Conform};
 ghost use Rattle.dsa_cli.specs.declared.reports.Run.TheVariants.{Own, Seen};
+ghost use Rattle.dsa_cli.specs.declared.reports.Written.{Written};
 ghost use Rattle.dsa_cli.specs.declared.reports.Written.TheVariants.{Friendly, Strict};
 ghost use Rattle.dsa_trace.specs.declared.form.Trace.{Trace as TraceForm};
 ghost use Rattle.dsa_trace.specs.declared.form.Trace.TheVariants.{Table, Wide, Changes, Json};
@@ -88,7 +89,8 @@ ghost use Rattle.dsa_cli.specs.CommandLine.{IsWrongIn, SaysNumber, range_asked, 
 ghost use Rattle.dsa_cli.specs.CommandLine.{AreNumbersOf, AreTotalsCutShort, AreTotalsWritten};
 ghost use Rattle.dsa_cli.specs.CommandLine.{AsksFor, IsAskedBy, IsMistaken, IsNumberOf};
 ghost use Rattle.dsa_cli.specs.CommandLine.{IsReportCut, IsReportLeft, IsReportName};
-ghost use Rattle.dsa_cli.specs.CommandLine.{IsReportWritten, IsServed, IsUnderstood, NameNothing};
+ghost use Rattle.dsa_cli.specs.CommandLine.{IsReportWritten, IsServed, IsServedIn, IsUnderstood};
+ghost use Rattle.dsa_cli.specs.CommandLine.{NameNothing, has_friendly_form};
 ghost use Rattle.dsa_cli.specs.CommandLine.{NameReport, NameServe, NameThreads, command_in};
 ghost use Rattle.dsa_cli.specs.CommandLine.{faults_of_words, check_app, conform_app, draw_app};
 ghost use Rattle.dsa_cli.specs.CommandLine.{explain_app, threads_app, trace_app};
@@ -297,10 +299,14 @@ pub fn threads_device()
         ≡ record { queues = 1; engines = 7; reserved = 0; allowed = 200 } }
     ensures engines { (group_config (load 2 8 5 7)).engines ≡ 255 }
     ensures setup { setup_steps (sized 100 70 9 200)
-        ≡ record
-        { event = WriteQueue 0 (queue_config (sized 100 70 9 200)); reply = reply.Write Written }
-        ∷ record
-        { event = WriteGroup 0 (group_config (sized 100 70 9 200)); reply = reply.Write Written }
+        ≡ record {
+          event = WriteQueue 0 (queue_config (sized 100 70 9 200));
+          reply = reply.Write write_answer.Written;
+        }
+        ∷ record {
+          event = WriteGroup 0 (group_config (sized 100 70 9 200));
+          reply = reply.Write write_answer.Written;
+        }
         ∷ record { event = Issue EnableDevice; reply = reply.Issue (Ended 0) }
         ∷ record { event = Issue (EnableWq 0); reply = reply.Issue (Ended 0) }
         ∷ [] }
@@ -487,16 +493,25 @@ pub fn totals_written()
 
 /// A dialogue that was served: the reader gave all of it, and the answers were written.
 pub fn dialogue_served()
-    ensures served { (input output : List ℕ) → AnswersAll input output
-        → IsServed (Some input) (Some []) (Some (codes "k")) (Some (codes "k" ++ output)) }
-    ensures all { (had left held holds : Option (List ℕ))
-        (served : IsServed had left held holds)
+    ensures served { (input output : List ℕ) → AnswersAll false input output
+        → IsServed (option_row (codes "friendly") (codes "false")) (Some input) (Some [])
+        (Some (codes "k")) (Some (codes "k" ++ output)) }
+    ensures friendly { (input output : List ℕ) → AnswersAll true input output
+        → IsServed (option_row (codes "friendly") (codes "true")) (Some input) (Some [])
+        (Some (codes "k")) (Some (codes "k" ++ output)) }
+    ensures all { (written : Written) (had left held holds : Option (List ℕ))
+        (served : IsServedIn written had left held holds)
         → Consumes had left served.0
         × IsAtEnd left
-        × AnswersAll served.0 served.1
+        × AnswersAll (has_friendly_form written) served.0 served.1
         × Appends held holds served.1 }
-    ensures more_to_read { ¬ IsServed (Some (codes "ab")) (Some (codes "b")) None None }
-    ensures given_back { ¬ IsServed (Some []) (Some (codes "b")) None None }
+    ensures strictly { (had left held holds : Option (List ℕ))
+        (served : IsServed (option_row (codes "friendly") (codes "false")) had left held holds)
+        → served.0 ≡ Strict }
+    ensures more_to_read { (rows : List Row)
+        → ¬ IsServed rows (Some (codes "ab")) (Some (codes "b")) None None }
+    ensures given_back { (rows : List Row)
+        → ¬ IsServed rows (Some []) (Some (codes "b")) None None }
 {}
 
 /// A report that was all written, and one of which only the first bytes were.
@@ -681,7 +696,7 @@ pub fn lines_chosen()
     ensures by_report { AsksBy (codes "count", []) (Report Count) }
     ensures by_unknown { AsksBy (codes "explain", option_row (codes "only") (codes "gone,on"))
         (WrongValue (Answer (lent_text (codes "on")))) }
-    ensures by_nothing { ¬ AsksBy (codes "serve", []) Serve }
+    ensures by_nothing { ¬ AsksBy (codes "serve", []) (Serve Strict) }
     ensures said_of_steps { wrong_value_text (Range (lent_text (codes "9..3")))
         ≡ codes "error: invalid value '9..3' for '--steps <A..B>': "
         ++ codes "a range as 3..9, 3.. or ..9 is wanted\n\nFor more information, try '--help'.\n" }
@@ -811,7 +826,7 @@ pub fn endings()
         → IsEndedBy (λ fault. fault ≡ TooLong) out (λ held. Some held) old new
         → new.writer.now ≡ old.writer.now ++ fault_line TooLong }
     ensures first_line_refused { (had left : Option (List ℕ)) (old new : ℕ)
-        → IsServeStopped TooLong had left (λ n. Some (n ∷ [])) old new → new ≡ old }
+        → IsServeStopped [] TooLong had left (λ n. Some (n ∷ [])) old new → new ≡ old }
 {}
 
 /// What gave rise to a fault, and what the writer holds then.
@@ -895,8 +910,9 @@ pub fn named_commands()
     ensures no_threads { (rows : List Row) → ¬ NameThreads (codes "serve" ∷ []) rows }
     ensures help { ¬ NameNothing (codes "--help" ∷ []) }
     ensures draw_is_something { ¬ NameNothing (codes "draw" ∷ []) }
-    ensures help_with_serve { ¬ NameServe (codes "serve" ∷ codes "--help" ∷ []) }
-    ensures no_serve { ¬ NameServe [] }
+    ensures help_with_serve { (rows : List Row)
+        → ¬ NameServe (codes "serve" ∷ codes "--help" ∷ []) rows }
+    ensures no_serve { (rows : List Row) → ¬ NameServe [] rows }
     ensures no_input_for_threads { AskNoInput (codes "threads" ∷ []) }
     ensures no_input_for_help { AskNoInput (codes "draw" ∷ codes "--help" ∷ []) }
     ensures input { ¬ AskNoInput [] }
@@ -955,7 +971,8 @@ pub fn asked()
         (Report (Check (check_in check_form.Json))) }
     ensures colored_check { AsksFor (codes "check" ∷ codes "--source" ∷ codes "--color" ∷ [])
         (Report (Check (check_in (check_form.Source true)))) }
-    ensures serve { AsksFor (codes "serve" ∷ []) Serve }
+    ensures serve { AsksFor (codes "serve" ∷ []) (Serve Strict) }
+    ensures friendly_serve { AsksFor (codes "serve" ∷ codes "--friendly" ∷ []) (Serve Friendly) }
     ensures draw_is_no_scenario { ¬ AsksFor (codes "draw" ∷ []) Scenario }
     ensures serve_is_no_scenario { ¬ AsksFor (codes "serve" ∷ []) Scenario }
     ensures other_report { ¬ AsksFor (codes "draw" ∷ [])

@@ -18,7 +18,7 @@ ghost use Rattle.dsa_scenario.specs.Watched.{watched_contents, has_refused, is_c
 ghost use Rattle.dsa_scenario.specs.Watched.{IsSameWriter};
 ghost use Rattle.dsa_cli.specs.CommandLine.{IsMistaken, IsUnderstood, AskNoInput, faults_of_words};
 ghost use Rattle.dsa_cli.specs.CommandLine.{NameNothing, NameThreads, NameReport, NameServe};
-ghost use Rattle.dsa_cli.specs.CommandLine.{IsServed, IsServeStopped};
+ghost use Rattle.dsa_cli.specs.CommandLine.{IsServed, IsServedIn, IsServeStopped, IsServeStoppedIn};
 ghost use Rattle.dsa_cli.specs.CommandLine.{SayHighThreshold, high_threshold_text};
 ghost use Rattle.dsa_cli.specs.CommandLine.{AskWrongValue, wrong_value_text};
 ghost use Rattle.dsa_cli.specs.CommandLine.{unknown_answer_text, unknown_range_text};
@@ -31,13 +31,13 @@ ghost use Rattle.dsa_cli.specs.Reports.{IsReported, IsReportCutShort, IsReportBe
 ghost use Rattle.dsa_cli.specs.Reports.{IsTextOrTooLong, IsTextOrTooLongCut, text_if_too_long};
 
 use crate::options::{Asked, Workload, WrongValue, read_words};
-use crate::reports::Report;
+use crate::reports::{Report, Written};
 use crate::threads::run_workload;
 use clap::Error;
 use clap::error::ErrorKind;
 use dsa_named_trace::stream_trace;
 use dsa_scenario::{PlainRun, Render, ScenarioFault, WatchedWriter, render_input};
-use dsa_serve::serve_watched;
+use dsa_serve::serve_either;
 use dsa_trace::Trace;
 use std::alloc::Global;
 use std::fmt::Display;
@@ -231,25 +231,26 @@ fn write_report<R: Read, O: Write, E: Write>(
     }
 }
 
-// Answers the dialogue that the reader gives.
+// Answers the dialogue that the reader gives, whose lines are written so.
 fn serve_input<R: Read, O: Write, E: Write>(
     alloc: Global,
+    written: Written,
     reader: &mut R,
     out: &mut WatchedWriter<'_, O>,
     err: &mut WatchedWriter<'_, E>,
 ) -> u8
     ensures done { result ≡ 0
-        → IsServed (R.remaining reader.old) (R.remaining reader.new)
+        → IsServedIn written (R.remaining reader.old) (R.remaining reader.new)
         (watched_contents O.contents out.old) (watched_contents O.contents out.new) }
     ensures failed { result ≡ 1
-        → IsEndedBy (λ fault. IsServeStopped fault
+        → IsEndedBy (λ fault. IsServeStoppedIn written fault
         (R.remaining reader.old) (R.remaining reader.new)
         (watched_contents O.contents) out.old out.new
         × IsWriteRefused fault out.new)
         out.new E.contents err.old err.new }
     ensures ends { IsEnd result out.old out.new err.old err.new }
 {
-    match serve_watched(alloc, reader, out) {
+    match serve_either(alloc, reader, out, written.is_friendly()) {
         Ok(()) => DONE,
         Err(fault) => tell_reader(out, err, &fault),
     }
@@ -386,8 +387,9 @@ fn show<O: Write, E: Write>(
 /// `threads` it runs workers in threads on one shared device, and writes their totals to `out`.
 /// With the word of a report it reads a document, and writes that to `out`, a trace row by row
 /// while the run is made, unless it shows the run that was seen, and a check also of a document
-/// that is too long. With the word `serve` it reads a document in one line and then a request in
-/// each line, and answers each before it reads on. Help goes to `out`.
+/// that is too long. With the word `serve` it reads a document and then a request in each line, and
+/// answers each before it reads on; with `--friendly` all of them may be in the friendly form. Help
+/// goes to `out`.
 ///
 /// The status is 0 where all of it was written, and 1 on a fault, whose line goes to `err` unless
 /// nobody reads `out` any more. It is 2 on a usage error, and `err` gets what is to say of it.
@@ -417,8 +419,9 @@ pub fn answer_words<T: Threads + Wait + Sync, R: Read, O: Write, E: Write>(
         → IsReportWritten found None (R.remaining reader.old) (R.remaining reader.new)
         (watched_contents O.contents out.old) (watched_contents O.contents out.new) }
     ensures serves { result ≡ 0
-        → NameServe (map string_bytes words.now)
-        → IsServed (R.remaining reader.old) (R.remaining reader.new)
+        → (rows : List Row)
+        → NameServe (map string_bytes words.now) rows
+        → IsServed rows (R.remaining reader.old) (R.remaining reader.new)
         (watched_contents O.contents out.old) (watched_contents O.contents out.new) }
 
     // Where it fails, the output is as it was, or has the first of the lines.
@@ -455,8 +458,9 @@ pub fn answer_words<T: Threads + Wait + Sync, R: Read, O: Write, E: Write>(
         × IsWriteRefused fault out.new)
         out.new E.contents err.old err.new }
     ensures serve_failed { result ≡ 1
-        → NameServe (map string_bytes words.now)
-        → IsEndedBy (λ fault. IsServeStopped fault
+        → (rows : List Row)
+        → NameServe (map string_bytes words.now) rows
+        → IsEndedBy (λ fault. IsServeStopped rows fault
         (R.remaining reader.old) (R.remaining reader.new)
         (watched_contents O.contents) out.old out.new
         × IsWriteRefused fault out.new)
@@ -496,7 +500,7 @@ pub fn answer_words<T: Threads + Wait + Sync, R: Read, O: Write, E: Write>(
     match read_words(alloc, words) {
         Ok(Asked::Scenario) => write_text(alloc, &PlainRun, None, reader, out, err),
         Ok(Asked::Report(report)) => write_report(alloc, &report, reader, out, err),
-        Ok(Asked::Serve) => serve_input(alloc, reader, out, err),
+        Ok(Asked::Serve(written)) => serve_input(alloc, written, reader, out, err),
         Ok(Asked::Threads(load)) => run_workers(rt, alloc, &load, out, err),
         Ok(Asked::HighThreshold(load)) => refuse_threshold(err, &load),
         Ok(Asked::WrongValue(value)) => refuse_value(err, value),
@@ -528,8 +532,9 @@ pub fn run_words<T: Threads + Wait + Sync, R: Read, O: Write, E: Write>(
         → IsReportWritten found None (R.remaining reader.old) (R.remaining reader.new)
         (O.contents out.old) (O.contents out.new) }
     ensures serves { result ≡ 0
-        → NameServe (map string_bytes words.now)
-        → IsServed (R.remaining reader.old) (R.remaining reader.new) (O.contents out.old)
+        → (rows : List Row)
+        → NameServe (map string_bytes words.now) rows
+        → IsServed rows (R.remaining reader.old) (R.remaining reader.new) (O.contents out.old)
         (O.contents out.new) }
 
     // Where it fails, the output is as it was, or has the first of the lines.
@@ -552,9 +557,10 @@ pub fn run_words<T: Threads + Wait + Sync, R: Read, O: Write, E: Write>(
         (R.remaining reader.old) (R.remaining reader.new) O.contents out.old out.new
         × (fault ≡ ScenarioFault.TooLong → found.0 ≢ codes "check")) }
     ensures serve_failed { result ≡ 1
-        → NameServe (map string_bytes words.now)
+        → (rows : List Row)
+        → NameServe (map string_bytes words.now) rows
         → (fault : ScenarioFault)
-        × IsServeStopped fault (R.remaining reader.old) (R.remaining reader.new)
+        × IsServeStopped rows fault (R.remaining reader.old) (R.remaining reader.new)
         O.contents out.old out.new }
 
     // A usage error, and words that ask for no input.

@@ -8,7 +8,7 @@ use std::sync::Wait;
 use std::thread::Threads;
 
 /// Each with how the output begins, of a document of one step.
-pub const READERS: [(Words, &str); 14] = [
+pub const READERS: [(Words, &str); 15] = [
     (&[], "nothing\n"),
     (&["--"], "nothing\n"),
     (&["check"], ""),
@@ -23,6 +23,7 @@ pub const READERS: [(Words, &str); 14] = [
     (&["conform"], "conforms"),
     (&["conform", "--all"], "conforms"),
     (&["serve"], "nothing\n"),
+    (&["serve", "--friendly"], "nothing\n"),
 ];
 
 // The status and the error of input that is no document.

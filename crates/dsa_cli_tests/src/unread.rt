@@ -8,7 +8,7 @@ use std::process::Abort;
 use std::sync::Wait;
 use std::thread::Threads;
 
-const WRONG: [Words; 31] = [
+const WRONG: [Words; 32] = [
     &["fly"],
     &[""],
     &["--json"],
@@ -26,6 +26,7 @@ const WRONG: [Words; 31] = [
     &["draw", "--steps", "9..3"],
     &["conform", "--wide"],
     &["serve", "serve"],
+    &["serve", "--friendly", "--friendly"],
     &["threads", "extra"],
     &["threads", "--fly", "1"],
     &["threads", "--clients"],

@@ -8,7 +8,7 @@ use Rattle.std.proofs.lemmas.{Map.Text.{is_eq-slice_cmp}, Slice.Eq.{bytes_eq-Dec
 use Rattle.std.proofs.lemmas.Option.{same_Some, slice_get-map, slice_get_read}
 use Rattle.std.specs.Prelude.{slice_get, if◌then◌else◌, option_and_then}
 use Rattle.std.specs.{Cmp.Lexicographic.{slice_cmp}, Ordering.{match_ordering}}
-use Rattle.serde_json.specs.Data.{Data, null, boolean, number, string, array, object, Members, no_members, member}
+use Rattle.serde_json.specs.Data.{Data, object, Members, no_members, member}
 use Rattle.serde_json.specs.{Find.{get, get_member}, View.{view}, declared.value.Value.{Value}}
 use Rattle.dsa_scenario.specs.declared.{fields.Form.{Form}, actions.{Action.{Action}, StepKind.{StepKind}}}
 use Rattle.dsa_scenario.specs.Fields.{◌>>=◌, Row, Reading, reading_at, Maker, made_of}
@@ -54,12 +54,8 @@ member_kept q no_members other = refl
 member_kept q (member k d ms) other = kept_behind q k d ms (is_seen_key k) refl other (member_kept q ms other)
 
 key_kept : (q : List ℕ) (d : Data) → is_seen_key q ≡ false → get q (bare d) ≡ get q d
-key_kept q null other = refl
-key_kept q (boolean b) other = refl
-key_kept q (number n) other = refl
-key_kept q (string s) other = refl
-key_kept q (array ds) other = refl
 key_kept q (object ms) other = member_kept q ms other
+key_kept q _ other = refl
 
 -- and of what was seen nothing is
 gone_behind : (q k : List ℕ) (d : Data) (ms : Members) (b : Bool) → is_seen_key k ≡ b → is_seen_key q ≡ true
@@ -74,24 +70,15 @@ member_gone q no_members seen = refl
 member_gone q (member k d ms) seen = gone_behind q k d ms (is_seen_key k) refl seen (member_gone q ms seen)
 
 key_gone : (q : List ℕ) (d : Data) → is_seen_key q ≡ true → get q (bare d) ≡ None
-key_gone q null seen = refl
-key_gone q (boolean b) seen = refl
-key_gone q (number n) seen = refl
-key_gone q (string s) seen = refl
-key_gone q (array ds) seen = refl
 key_gone q (object ms) seen = member_gone q ms seen
+key_gone q _ seen = refl
 
 -- ---- what is asked
 
 reading_kept : (wanted : Form) (q : List ℕ) (d : Data) → is_seen_key q ≡ false
     → reading_at wanted q (bare d) ≡ reading_at wanted q d
 reading_kept (form.Whole least most) q d other = rw (key_kept q d other) refl
-reading_kept (form.Bounded field least most) q d other = rw (key_kept q d other) refl
-reading_kept form.Truth q d other = rw (key_kept q d other) refl
-reading_kept form.Text q d other = rw (key_kept q d other) refl
-reading_kept form.Digits q d other = rw (key_kept q d other) refl
-reading_kept form.Array q d other = rw (key_kept q d other) refl
-reading_kept form.Object q d other = rw (key_kept q d other) refl
+reading_kept _ q d other = rw (key_kept q d other) refl
 
 then_same : {A B : Type 0} (o : Option A) (f g : A → Option B) → ((x : A) → f x ≡ g x) → (o >>= f) ≡ (o >>= g)
 then_same None f g each = refl

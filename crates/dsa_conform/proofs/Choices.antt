@@ -10,7 +10,8 @@ use Rattle.std.proofs.lemmas.List.Elements.{Contains-append_left, Contains-appen
 use Rattle.std.proofs.lemmas.List.Elements.{filter_map-append}
 use Rattle.std.proofs.Math.ListN.{get_or-map}
 use Rattle.std.specs.{Prelude.{All, Contains}, List.{list_any}}
-use Rattle.dsa_base.{specs.{Lists.{In}, Numbers.{numbers_below}, Rows.{passes}}, proofs.NumberLemmas.{numbers_below-miss}}
+use Rattle.dsa_base.specs.{Lists.{In}, Numbers.{numbers_below}, Rows.{passes}}
+use Rattle.dsa_base.proofs.NumberLemmas.{numbers_below-miss}
 use Rattle.dsa_base.proofs.Tables.{not-both}
 use Rattle.dsa_store.specs.Content.{HeldEntry}
 use Rattle.dsa_book.specs.declared.answer.{DispatchAnswer.TheVariants.{Taken, Idle}}

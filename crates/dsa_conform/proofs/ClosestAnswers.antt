@@ -1,5 +1,6 @@
 -- A step that goes on by the answer closest to what was seen.
-use Rattle.std.proofs.Common.{◌≡◌, ◌<◌, ◌==◌, ◌∙◌, ℕ, true, false, List, [], ◌∷◌, Some, Ok, Result, length, sym, subst, refl}
+use Rattle.std.proofs.Common.{◌≡◌, ◌<◌, ◌==◌, ◌∙◌, ℕ, true, false, List, [], ◌∷◌, Some, Ok, Result, length, sym, subst}
+use Rattle.std.proofs.Common.{refl}
 use Rattle.std.proofs.lemmas.Option.{same_Some}
 use Rattle.dsa_book.specs.State.{Work}
 use Rattle.dsa_book.specs.declared.event.Event.{Event, TheVariants.{Dispatch}}

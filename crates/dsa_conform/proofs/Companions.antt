@@ -1,15 +1,16 @@
 -- Several devices that are followed together.
 use Rattle.dsa_book.specs.declared.answer.Reply.TheVariants as reply
 use Rattle.dsa_book.specs.declared.event.Event.TheVariants as event
-use Rattle.std.proofs.Common.{◌≡◌, ◌⊎◌, inl, inr, ℕ, ◌+◌, ◌==◌, ◌^◌, ◌≤◌, Bool, true, false, List, [], ◌∷◌, ◌++◌, length}
+use Rattle.std.proofs.Common.{◌≡◌, ◌⊎◌, inl, inr, ℕ, ◌+◌, ◌==◌, ◌^◌, ◌≤◌, Bool, true, false, List, [], ◌∷◌, ◌++◌}
 use Rattle.std.proofs.Common.{map, filter_map, take, Option, Some, None, Result, Ok, refl, sym, ap, subst, ◌∙◌, arith}
-use Rattle.std.proofs.Common.{append_assoc, append-nil, string_bytes}
+use Rattle.std.proofs.Common.{append_assoc, append-nil, string_bytes, length}
 use Rattle.std.proofs.lemmas.{Option.{same_Some}, List.Elements.{filter_map-append}}
 use Rattle.std.specs.Prelude.{slice_get, IsTrue, not}
 use Rattle.serde_json.specs.Data.{Data}
 use Rattle.dsa_base.{specs.Lists.{In}, proofs.{Tables.{not-both}, Lists.{In-push, In-left, In-right}}}
 use Rattle.dsa_regs.specs.{declared.{Caps.{Caps}, Fault.{Fault}}, Caps.{check_caps}}
-use Rattle.dsa_book.specs.declared.{answer.Ticket.{Ticket}, answer.Reply.{Reply}, answer.DispatchAnswer.TheVariants.{Taken}}
+use Rattle.dsa_book.specs.declared.{answer.Ticket.{Ticket}, answer.Reply.{Reply}}
+use Rattle.dsa_book.specs.declared.answer.DispatchAnswer.TheVariants.{Taken}
 use Rattle.dsa_book.specs.declared.event.{Event.{Event}, Step.{Step}}
 use Rattle.dsa_book.specs.{State.{State}, Machine.{next, full_reply, reply_of}, Choice.{from_queue}, Work.{qualifies}}
 use Rattle.dsa_book.proofs.{Nexts.{next-is}, EqualReplies.{equal-replies}}
@@ -30,10 +31,11 @@ use Rattle.dsa_conform.specs.Run.{IsFact, IsFollowedTo, IsDifference, IsAllowedL
 use Rattle.dsa_conform.specs.Seen.{Seen, shows}
 use Rattle.dsa_conform.specs.ToldLines.{IsTextTold, AreLinesTold, fact_told, line_as}
 use Rattle.dsa_conform.specs.Ways.{AreDevicesAlike, IsNamedEnd, RunFrom, queue_of_reply, queue_of_record, queues_taken}
-use Rattle.dsa_conform.specs.Ways.{IsOneWay, IsFork, IsAmong, Covers, IsTold, AllFollow, AllAreAmong, HasOne, AreNamedEnds}
+use Rattle.dsa_conform.specs.Ways.{IsOneWay, IsFork, IsAmong, Covers, IsTold, AllFollow, AllAreAmong, HasOne}
 use Rattle.dsa_conform.specs.Ways.{IsReadTo, IsOn, IsFollowedOn, IsWayBy, IsAdded, AreAdded, IsGone, IsOneGone, AreGone}
-use Rattle.dsa_conform.specs.Ways.{AreFollowed, AreGoneOn, AreOn, IsGoneOn}
-use Rattle.dsa_conform.proofs.Choices.{empty_list, filled_list, all_in, contains_in, in_map, map_in, takes_from, is_dispatch, answered_otherwise}
+use Rattle.dsa_conform.specs.Ways.{AreFollowed, AreGoneOn, AreOn, IsGoneOn, AreNamedEnds}
+use Rattle.dsa_conform.proofs.Choices.{empty_list, filled_list, all_in, contains_in, in_map, map_in, takes_from}
+use Rattle.dsa_conform.proofs.Choices.{is_dispatch, answered_otherwise}
 use Rattle.dsa_conform.proofs.Runs.{ends_with, run_push, run_of, IsGood, good_run, good_at_first}
 use Rattle.dsa_conform.proofs.Runs.{stay_alike, same_runs, queues_told, queues_of_run}
 use Rattle.dsa_conform.proofs.SameLines.{same_line}
@@ -243,7 +245,8 @@ forked_alike : (caps : Caps) (capacity : ℕ) (steps : List Data) (observed : Li
     → queue_of_record entry ≡ Some queue
     → IsWayBy caps capacity steps (number + 1) (queues_taken now.history ++ queue ∷ []) way
     → AreDevicesAlike after way.device
-forked_alike caps capacity steps observed number here now after tickets entry queue way read h answers leads shown is by =
+forked_alike caps capacity steps observed number here now after tickets entry queue way read h answers
+    leads shown is by =
     let done = take number observed in
     let first = running_at_first caps capacity in
     let i = first_replay caps capacity done number now tickets h in
@@ -275,7 +278,8 @@ pub gone_forked : (caps : Caps) (capacity : ℕ) (steps : List Data) (here : Act
     → IsReadTo steps observed number here
     → (h : IsFollowedTo caps capacity (take number observed) number way.device way.tickets.items)
     → IsGone caps capacity (take number observed) here number way.device (event_of h.records here.0) old tolds new tolds
-gone_forked caps capacity steps here number way old new tolds asked q qs choices asks fork chosen added observed read h =
+gone_forked caps capacity steps here number way old new tolds asked q qs choices asks fork chosen added
+    observed read h =
     let done = take number observed in
     let ask : asked ≡ event_of h.records here.0 = asks h.records h.table in
     let fork : IsFork way.device (event_of h.records here.0) here.1 (q ∷ qs) =
@@ -284,8 +288,8 @@ gone_forked caps capacity steps here number way old new tolds asked q qs choices
     record {
       each = λ other i. elim (added.each other i) [
         | inl before ↦ inl before
-        | inr by ↦ inr (subst (λ l. IsFollowedTo caps capacity l (number + 1) other.device other.tickets.items) read.more
-            (by.1.follows observed read.read))
+        | inr by ↦ inr (subst (λ l. IsFollowedTo caps capacity l (number + 1) other.device other.tickets.items)
+            read.more (by.1.follows observed read.read))
       ];
       all = added.all;
       tolds = λ told i. inl i;
@@ -294,8 +298,8 @@ gone_forked caps capacity steps here number way old new tolds asked q qs choices
           let by = fork.0 entry (record { answers = answers; after = after; leads = leads }) shown in
           let to = added.here by.0 by.1 in
           among after to.0.device new
-          (forked_alike caps capacity steps observed number here way.device after way.tickets.items entry by.0 to.0 read h
-          answers leads shown by.2
+          (forked_alike caps capacity steps observed number here way.device after way.tickets.items entry
+          by.0 to.0 read h answers leads shown by.2
           (subst (λ l. IsWayBy caps capacity steps (number + 1) (l ++ by.0 ∷ []) to.0) chosen to.1))
           to.2;
       may = let one = fork.1 q (inl refl) in (one.0, one.1);
@@ -331,7 +335,8 @@ gone_on caps capacity done here number now asked way old new tolds follows on ad
 
 pub gone_told : (caps : Caps) (capacity : ℕ) (done : List (Action × Seen)) (here : Action × Seen) (number : ℕ)
     (now : Running) (asked : Result Event BadWord) (old : List Way) (before : List Told) (told : Told)
-    → IsTold now asked here.1 told → IsGone caps capacity done here number now asked old before old (before ++ told ∷ [])
+    → IsTold now asked here.1 told → IsGone caps capacity done here number now asked old before old
+    (before ++ told ∷ [])
 gone_told caps capacity done here number now asked old before told is = record {
   each = λ other i. inl i;
   all = λ other i. i;
@@ -360,7 +365,8 @@ none_gone caps capacity done here number new tolds none nothing = record {
 some_more : (old new : List Way) → ((way : Way) → In way old → In way new) → HasOne old → HasOne new
 some_more old new all some = (some.0, all some.0 some.1)
 
-one_more_gone : (now : Running) (asked : Result Event BadWord) (seen : Seen) (old new : List Way) (before after : List Told)
+one_more_gone : (now : Running) (asked : Result Event BadWord) (seen : Seen) (old new : List Way)
+    (before after : List Told)
     → ((way : Way) → In way old → In way new) → ((told : Told) → In told before → In told after)
     → IsOneGone now asked seen old before → IsOneGone now asked seen new after
 one_more_gone now asked seen old new before after all kept one = record {
@@ -388,8 +394,11 @@ more_gone caps capacity done here number ways old new way before after h gone on
   ];
   all = λ other i. elim (In-push other ways way i) [
     | inl earlier ↦
-        let by = gone.all other earlier in
-        (by.0, one_more_gone other.device (event_of by.0.records here.0) here.1 old new before after one.all one.kept by.1)
+        let by = gone.all other earlier in (
+          by.0,
+          one_more_gone other.device (event_of by.0.records here.0) here.1 old new before after one.all
+              one.kept by.1,
+        )
     | inr same ↦
         subst (λ (w : Way). (k : IsFollowedTo caps capacity done number w.device w.tickets.items)
         × IsOneGone w.device (event_of k.records here.0) here.1 new after) same
@@ -427,7 +436,8 @@ pub all_step : (caps : Caps) (capacity : ℕ) (done : List (Action × Seen)) (he
     → AreFollowed caps capacity (done ++ here ∷ []) (number + 1) new
 all_step caps capacity done here number old new tolds named followed gone some = record {
   each = gone.each;
-  all = goes_among caps capacity done here number old new tolds (replay_first caps capacity done number old followed) named
+  all = goes_among caps capacity done here number old new tolds
+      (replay_first caps capacity done number old followed) named
       followed gone;
   some = some;
 }
@@ -658,9 +668,10 @@ pub forked : (caps : Caps) (capacity : ℕ) (steps : List Data) (here : Action �
     → IsGone caps capacity (take number observed) here number way.device (event_of h.records here.0) old tolds new tolds
 forked caps capacity steps here number way old new tolds asked [] choices asks some fork chosen added observed read h =
     let nothing : List ℕ = [] in absurd (filled_list nothing some refl)
-forked caps capacity steps here number way old new tolds asked (q ∷ qs) choices asks some fork chosen added observed read
-    h =
-    gone_forked caps capacity steps here number way old new tolds asked q qs choices asks fork chosen added observed read h
+forked caps capacity steps here number way old new tolds asked (q ∷ qs) choices asks some fork chosen
+    added observed read h =
+    gone_forked caps capacity steps here number way old new tolds asked q qs choices asks fork chosen added
+    observed read h
 
 -- and none
 pub not_forked : (now : Running) (asked : Result Event BadWord) (seen : Seen) (queues : List ℕ)

@@ -1,12 +1,14 @@
 -- Which queues the answers to one event tell of.
 use Rattle.dsa_book.specs.declared.answer.Reply.TheVariants as reply
 use Rattle.dsa_book.specs.declared.event.Event.TheVariants as event
-use Rattle.std.proofs.Common.{◌≡◌, ◌<◌, ◌≤◌, ◌==◌, ◌+◌, ℕ, Bool, true, false, List, [], ◌∷◌, length, Option, Some, None, inl, inr, ◌⊎◌}
+use Rattle.std.proofs.Common.{◌≡◌, ◌<◌, ◌≤◌, ◌==◌, ◌+◌, ℕ, Bool, true, false, List, [], ◌∷◌, length, Option, Some, None}
+use Rattle.std.proofs.Common.{inl, inr, ◌⊎◌}
 use Rattle.std.proofs.Common.{Result, Ok, refl, sym, ap, subst, ◌∙◌, arith}
 use Rattle.std.proofs.lemmas.{Option.{same_Some}, Bool.{eqb-true, eqb-false}, List.Elements.{All-contains}}
 use Rattle.dsa_base.{specs.{Lists.{In}}, proofs.{Tables.{not-both}, Lists.{In-alone, In-only}}}
 use Rattle.dsa_book.specs.declared.{answer.{Reply.{Reply}, DispatchAnswer.TheVariants.{Taken}}, event.{Event.{Event}}}
-use Rattle.dsa_book.specs.{State.{State, Work}, Machine.{next, full_reply, reply_of}, Choice.{from_queue}, Work.{qualifies}}
+use Rattle.dsa_book.specs.{State.{State, Work}, Machine.{next, full_reply, reply_of}, Choice.{from_queue}}
+use Rattle.dsa_book.specs.Work.{qualifies}
 use Rattle.dsa_book.proofs.{EqualReplies.{equal-replies}, Nexts.{next-is}}
 use Rattle.dsa_device.specs.Running.{Running}
 use Rattle.dsa_device.proofs.Steps.{answered_by_cases}
@@ -15,8 +17,9 @@ use Rattle.dsa_scenario.specs.declared.run.Record.{Record, TheVariants.{Stepped,
 use Rattle.dsa_conform.specs.Allowed.{IsAllowed, IsNoDispatch, offer, offers}
 use Rattle.dsa_conform.specs.{Seen.{Seen, shows}, Ways.{IsFork, IsOneWay, queue_of_record, queue_of_reply}}
 use Rattle.dsa_conform.proofs.SeenAlike.{NoneTaken, event_in}
-use Rattle.dsa_conform.proofs.Choices.{each, empty_list, filled_list, none_offered, allowed_is_offered, is_offer, offer_tells}
-use Rattle.dsa_conform.proofs.Choices.{is_dispatch, answered_otherwise, offered_is_allowed, below_queues, contains-nothing, given}
+use Rattle.dsa_conform.proofs.Choices.{each, empty_list, filled_list, none_offered, allowed_is_offered, is_offer}
+use Rattle.dsa_conform.proofs.Choices.{is_dispatch, answered_otherwise, offered_is_allowed, below_queues, offer_tells}
+use Rattle.dsa_conform.proofs.Choices.{contains-nothing, given}
 
 full-tells : (e : Event) → queue_of_reply (full_reply e) ≡ None
 full-tells event.Poll = refl
@@ -47,7 +50,8 @@ pub full_way : (now : Running) (asked : Result Event BadWord) (seen : Seen)
 full_way now asked seen full =
     one_way now asked seen (λ e is room t q s n. not-both (length now.history == now.capacity) full room)
 
-pub other_way : (now : Running) (asked : Result Event BadWord) (seen : Seen) → IsNoDispatch asked → IsOneWay now asked seen
+pub other_way : (now : Running) (asked : Result Event BadWord) (seen : Seen) → IsNoDispatch asked
+    → IsOneWay now asked seen
 other_way now asked seen h = one_way now asked seen (λ e is room t q s n.
     let other : is_dispatch (reply_of now.state e (from_queue q)).0 ≡ false =
     answered_otherwise now.state e (from_queue q) (subst (λ a. IsNoDispatch a) is h) in
@@ -80,7 +84,8 @@ by_offers now e seen room same = at (length (offers now.state.work e) == 0) refl
     at : (b : Bool) → (length (offers now.state.work e) == 0) ≡ b → IsOneWay now (Ok (event.Dispatch e)) seen
     at true none =
         one_way now (Ok (event.Dispatch e)) seen
-        (λ x is. subst (NoneTaken now) (ap (event_in (event.Dispatch e)) is) (none_offered now e (empty_list (offers now.state.work e) none)))
+        (λ x is. subst (NoneTaken now) (ap (event_in (event.Dispatch e)) is)
+        (none_offered now e (empty_list (offers now.state.work e) none)))
     at false some = λ first second is are shown showing.
         let h = offered_of now e first room (filled_list (offers now.state.work e) some) is in
         let k = offered_of now e second room (filled_list (offers now.state.work e) some) are in

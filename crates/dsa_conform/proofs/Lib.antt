@@ -1,3 +1,5 @@
+pub mod Beginnings
+pub mod Refusals
 pub mod RowRuns
 pub mod RowTakes
 pub mod RowWays

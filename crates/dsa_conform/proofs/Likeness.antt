@@ -103,7 +103,8 @@ one_list caps w v k shape other h below = by_queue (nat_lt k caps.queues) refl
 all_lists : (caps : Caps) (w v : Work) → HasShape caps w → HasShape caps v → AreSame caps w v
     → entries_alone w.content ≡ entries_alone v.content
 all_lists caps w v shape other h =
-    same_by (entries_alone w.content) (entries_alone v.content) (list_count caps) [] (length-map w.content entries_only ∙ shape.lists)
+    same_by (entries_alone w.content) (entries_alone v.content) (list_count caps) []
+    (length-map w.content entries_only ∙ shape.lists)
     (length-map v.content entries_only ∙ other.lists)
     (λ k below. get_or-map entries_only w.content k [] ∙ one_list caps w v k shape other h below
     ∙ sym (get_or-map entries_only v.content k []))
@@ -148,7 +149,8 @@ pub engine_alike : (w v : Work) (e : ℕ) → w.setup ≡ v.setup → entries_al
 engine_alike w v e setup entries notes = record {
   note = ap (λ (l : List (Option BatchNote)). get_or l e None) notes;
   in_progress = same_entries_where (nat_lt e w.setup.caps.engines) w v (progress_list w.setup e) entries
-      ∙ ap (λ (s : Setup). entries_only (cond (nat_lt e s.caps.engines) (chain v.content (progress_list s e)) [])) setup;
+      ∙ ap (λ (s : Setup). entries_only (cond (nat_lt e s.caps.engines) (chain v.content (progress_list s e)) []))
+      setup;
   members = same_entries_where (nat_lt e w.setup.caps.engines) w v (member_list w.setup e) entries
       ∙ ap (λ (s : Setup). entries_only (cond (nat_lt e s.caps.engines) (chain v.content (member_list s e)) [])) setup;
 }

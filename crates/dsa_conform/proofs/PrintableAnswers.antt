@@ -15,7 +15,7 @@ use Rattle.std.proofs.Common.{arith, ◌≡◌, find, sym, ap, subst, ℕ, List,
 use Rattle.std.proofs.Common.{Option, Some, None, codes, unwrap_or, option_map}
 use Rattle.std.specs.{Prelude.{⊤}, Option.{option_map_or}, Fmt.{digits}}
 use Rattle.dsa_desc.specs.declared.{Descriptor.{Descriptor}, Outcome.{Outcome, TheVariants.{Success, PageFault}}}
-use Rattle.dsa_desc.specs.Descriptor.{OperationRow, operation_row}
+use Rattle.dsa_desc.specs.Descriptor.{OperationRow, operation_row, pasid_of}
 use Rattle.dsa_regs.specs.declared.{Fault.{Fault}, Command.{Command}, Scope.{Scope}, layout.ListUse.{ListUse}}
 use Rattle.dsa_regs.specs.{Fault.{fault_name}, Command.{command_label, scope_of}}
 use Rattle.dsa_book.specs.declared.event.{Event.{Event}, Portal.{Portal, TheVariants.{Limited, Unlimited}}}
@@ -24,7 +24,8 @@ use Rattle.dsa_book.specs.declared.answer.{Cause.{Cause, TheVariants.{AtLimit, N
 use Rattle.dsa_book.specs.declared.answer.{SubmitAnswer.{SubmitAnswer}, DispatchAnswer.{DispatchAnswer}}
 use Rattle.dsa_book.specs.declared.answer.{FetchAnswer.{FetchAnswer}, StartAnswer.{StartAnswer}}
 use Rattle.dsa_book.specs.declared.answer.{FinishAnswer.{FinishAnswer}, IssueAnswer.{IssueAnswer}}
-use Rattle.dsa_book.specs.declared.answer.{PollAnswer.{PollAnswer}, WriteAnswer.{WriteAnswer}, ClearAnswer.{ClearAnswer}}
+use Rattle.dsa_book.specs.declared.answer.{PollAnswer.{PollAnswer}, WriteAnswer.{WriteAnswer}}
+use Rattle.dsa_book.specs.declared.answer.ClearAnswer.{ClearAnswer}
 use Rattle.dsa_event_text.specs.Text.{operation_label, descriptor_text, scope_text, command_with_operand, list_text}
 use Rattle.dsa_event_text.specs.Text.{portal_label, instruction_text, outcome_label, event_text}
 use Rattle.dsa_scenario.specs.declared.run.Record.{Record, TheVariants.{Stepped, Refused}}
@@ -102,7 +103,7 @@ portal Limited = refl
 portal Unlimited = refl
 
 instruction : (k : Kind) → Shown (instruction_text k)
-instruction (Enqcmd pasid) = number pasid
+instruction (Enqcmd pasid) = number (pasid_of pasid)
 instruction Movdir64b = refl
 
 outcome : (o : Outcome) → Shown (outcome_label o)
@@ -155,17 +156,12 @@ dispatch_words dispatch.Full = refl
 
 fetch_words : (a : FetchAnswer) → Shown (fetch_text a)
 fetch_words (fetch.Fetched ticket) = number ticket.name
-fetch_words fetch.NoBatch = refl
-fetch_words fetch.AllFetched = refl
-fetch_words fetch.Full = refl
+fetch_words _ = refl
 
 start_words : (a : StartAnswer) → Shown (start_text a)
 start_words (start.Started ticket) = number ticket.name
-start_words start.FenceWait = refl
-start_words start.NoBuffers = refl
 start_words (start.Abandoned count) = number count
-start_words start.Nothing = refl
-start_words start.Full = refl
+start_words _ = refl
 
 issue_words : (a : IssueAnswer) → Shown (issue_text a)
 issue_words (issue.Ended aborted) = number aborted
@@ -175,9 +171,7 @@ issue_words issue.Full = refl
 
 poll_words : (a : PollAnswer) → Shown (poll_text a)
 poll_words poll.Finished = refl
-poll_words poll.Active = refl
-poll_words poll.Nothing = refl
-poll_words poll.Full = refl
+poll_words _ = refl
 
 write_words : (a : WriteAnswer) → Shown (write_text a)
 write_words write.Written = refl

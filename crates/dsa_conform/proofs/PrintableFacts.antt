@@ -7,11 +7,13 @@ use Rattle.dsa_admin.specs.declared.reasons.PollReason.TheVariants as poll
 use Rattle.std.proofs.Common.{◌≡◌, ℕ, zero, suc, ◌==◌, ◌&&◌, List, [], ◌∷◌, ◌++◌, Bool, true, false, refl, unwrap_or}
 use Rattle.std.proofs.Common.{Option, Some, None, Result, Ok, Err, codes, length, drop, cond, nat_lt, option_map}
 use Rattle.std.proofs.lemmas.Bool.{and_parts}
-use Rattle.std.specs.{List.{list_all, starts_with}, Option.{option_map_or}, Prelude.{bytes_eq, is_none, nat_eq, slice_get}}
+use Rattle.std.specs.{List.{list_all, starts_with}, Option.{option_map_or}}
+use Rattle.std.specs.Prelude.{bytes_eq, is_none, nat_eq, slice_get}
 use Rattle.dsa_regs.specs.{declared.{Command.{Command}, layout.ListUse.{ListUse}}, Caps.{list_use}}
 use Rattle.dsa_store.specs.Content.{list_of_cell}
-use Rattle.dsa_book.specs.declared.{answer.{Ticket.{Ticket}, NotedError.{NotedError}}, event.{Event.{Event}, Portal.{Portal}}}
-use Rattle.dsa_book.specs.declared.event.Kind.{Kind, TheVariants.{Enqcmd, Movdir64b}}
+use Rattle.dsa_book.specs.declared.answer.{Ticket.{Ticket}, NotedError.{NotedError}}
+use Rattle.dsa_book.specs.declared.event.{Event.{Event}, Portal.{Portal}}
+use Rattle.dsa_book.specs.declared.event.Kind.TheVariants.{Enqcmd}
 use Rattle.dsa_book.specs.declared.note.ActiveCommand.{ActiveCommand}
 use Rattle.dsa_book.specs.{State.{Intake, State, Work}, Work.{front_of, group_of_engine}, Machine.{intake_of}}
 use Rattle.dsa_admin.specs.Command.{issue_reason}
@@ -22,16 +24,18 @@ use Rattle.dsa_engines.specs.Finish.{fetched_count, member_total, finish_reason}
 use Rattle.dsa_device.specs.Running.{Running}
 use Rattle.dsa_scenario.specs.declared.{actions.BadWord.{BadWord}, run.Record.{Record}}
 use Rattle.dsa_explain_lines.specs.Parts.{part_of, queue_keeping}
-use Rattle.dsa_explain_lines.specs.Sentences.{submit_sentence, queue_sentence, fetch_sentence, finish_sentence, issue_sentence}
-use Rattle.dsa_explain_lines.specs.Sentences.{poll_sentence, wait_count}
+use Rattle.dsa_explain_lines.specs.Sentences.{submit_sentence, queue_sentence, fetch_sentence, finish_sentence}
+use Rattle.dsa_explain_lines.specs.Sentences.{poll_sentence, wait_count, issue_sentence}
 use Rattle.dsa_conform.specs.{Allowed.{offer, offers, queue_taken}, Quoted.{is_printable}, Seen.{Seen}}
 use Rattle.dsa_conform.specs.Facts.{never_words, room_words, next_name_words, queue_count_words, not_of_group_words}
 use Rattle.dsa_conform.specs.Facts.{front_is_words, may_take_words, may_start_words, waits_for_nothing_words}
 use Rattle.dsa_conform.specs.Facts.{no_failure_words, removes_nothing_words, unlocked_words, noted_words}
-use Rattle.dsa_conform.specs.Against.{leading_word, text_seen, kind_label, is_possible, is_refusal, reason_of_row, row_of_reason}
+use Rattle.dsa_conform.specs.Answers.{leading_word}
+use Rattle.dsa_conform.specs.Against.{text_seen, kind_label, is_possible, is_refusal, reason_of_row, row_of_reason}
 use Rattle.dsa_conform.specs.Against.{row_seen, passed_fact, name_taken, queue_named, queue_fact, taken_fact, idle_fact}
-use Rattle.dsa_conform.specs.Against.{dispatch_fact, list_fact, finish_fact, issue_fact, ended_fact, noted_fact, early_fact}
-use Rattle.dsa_conform.specs.Against.{fetch_fact, late_fact, first_text, unmarked, checked_fact, event_fact, fact_against}
+use Rattle.dsa_conform.specs.Against.{dispatch_fact, list_fact, finish_fact, issue_fact, ended_fact, noted_fact}
+use Rattle.dsa_conform.specs.Against.{fetch_fact, late_fact, first_text, unmarked, checked_fact, event_fact, early_fact}
+use Rattle.dsa_conform.specs.Against.{fact_against}
 use Rattle.dsa_conform.proofs.Printable.{Shown, joined, chosen, number, parts}
 use Rattle.dsa_conform.proofs.PrintableParts.{reason, queue_kept}
 use Rattle.dsa_conform.proofs.PrintableReasons.{submit_words, engine_words, queue_words, fetch_words, finish_words}
@@ -59,16 +63,7 @@ unmarked_shown part p = chosen (starts_with nat_eq part (codes ": ")) (drop 2 pa
 
 kind_shown : (e : Event) → Shown (kind_label e)
 kind_shown (event.Submit client q p (Enqcmd pasid) desc) = refl
-kind_shown (event.Submit client q p Movdir64b desc) = refl
-kind_shown (event.Dispatch e) = refl
-kind_shown (event.Fetch e desc) = refl
-kind_shown (event.Start e) = refl
-kind_shown (event.Finish e ticket o) = refl
-kind_shown (event.Issue c) = refl
-kind_shown event.Poll = refl
-kind_shown (event.WriteQueue q config) = refl
-kind_shown (event.WriteGroup g config) = refl
-kind_shown event.ClearError = refl
+kind_shown _ = refl
 
 never_shown : (kind : List ℕ) → Shown kind → Shown (never_words kind)
 never_shown kind p = joined kind (codes " is answered so") p refl
@@ -143,14 +138,9 @@ early_shown : (s : State) (e : Event) (seen : Seen) → Shown (early_fact s e se
 early_shown s (event.Submit client q p kind desc) seen =
     passed_shown (intake_of s) q p (row_seen seen.answer seen.zf) (row_of_reason (submit_reason (intake_of s) q p kind))
 early_shown s (event.Dispatch e) seen = dispatch_shown s.work e (text_seen seen)
-early_shown s (event.Fetch e desc) seen = refl
-early_shown s (event.Start e) seen = refl
 early_shown s (event.Finish e ticket o) seen = finish_shown s.work e ticket (text_seen seen)
 early_shown s (event.Issue c) seen = issue_shown s c (text_seen seen)
-early_shown s event.Poll seen = refl
-early_shown s (event.WriteQueue q config) seen = refl
-early_shown s (event.WriteGroup g config) seen = refl
-early_shown s event.ClearError seen = refl
+early_shown s _ seen = refl
 
 fetch_shown : (w : Work) (e : ℕ) (text : List ℕ) → Shown (fetch_fact w e text)
 fetch_shown w e text =
@@ -160,16 +150,13 @@ fetch_shown w e text =
 
 late_shown : (s : State) (e : Event) (seen : Seen) → Shown (late_fact s e seen)
 late_shown s (event.Submit client q p kind desc) seen = next_shown s.work.setup.next_name
-late_shown s (event.Dispatch e) seen = refl
 late_shown s (event.Fetch e desc) seen = fetch_shown s.work e (text_seen seen)
 late_shown s (event.Start e) seen = let words : Shown (may_start_words e) = search parts depth 16 in words
 late_shown s (event.Finish e ticket o) seen =
     let words : Shown (no_failure_words ticket.name) = search parts depth 16 in words
-late_shown s (event.Issue c) seen = refl
 late_shown s event.Poll seen = ended_shown s.active
-late_shown s (event.WriteQueue q config) seen = refl
-late_shown s (event.WriteGroup g config) seen = refl
 late_shown s event.ClearError seen = noted_shown s.work.setup.noted
+late_shown s _ seen = refl
 
 checked_shown : (s : State) (e : Event) (seen : Seen) (part : List ℕ) → Shown part → Shown (checked_fact s e seen part)
 checked_shown s e seen part p =

@@ -19,16 +19,18 @@ use Rattle.dsa_engines.specs.Batch.{fetch_reason, start_reason}
 use Rattle.dsa_admin.specs.Command.{issue_reason, poll_reason}
 use Rattle.dsa_queues.specs.{Submission.{submit_reason}, Write.{write_queue_reason, write_group_reason, clear_reason}}
 use Rattle.dsa_book.specs.Machine.{intake_of}
-use Rattle.dsa_explain.specs.{Held.{awaited_entry, awaited_lists, NamedList, losses}, Wait.{noted_as, wait_reason}, Done.{done_reason}}
+use Rattle.dsa_explain.specs.{Held.{awaited_entry, awaited_lists, NamedList, losses}, Wait.{noted_as, wait_reason}}
+use Rattle.dsa_explain.specs.Done.{done_reason}
 use Rattle.dsa_device.specs.Running.{Running}
 use Rattle.dsa_explain_lines.specs.Sentences.{submit_sentence, fetch_sentence, poll_sentence}
-use Rattle.dsa_explain_lines.specs.Sentences.{no_engine, no_queue, wait_count, list_words, done_sentence, write_sentence, clear_sentence}
+use Rattle.dsa_explain_lines.specs.Sentences.{no_engine, no_queue, wait_count, list_words, done_sentence}
+use Rattle.dsa_explain_lines.specs.Sentences.{write_sentence, clear_sentence}
 use Rattle.dsa_explain.specs.declared.awaiting.WaitReason.{WaitReason}
 use Rattle.dsa_explain_lines.specs.Parts.{told_of, kept_part, keeping_part, queue_keeping, start_keeping, joint}
 use Rattle.dsa_explain_lines.specs.Parts.{queue_part_of, queue_part, dispatch_part_of, start_part_of}
 use Rattle.dsa_explain_lines.specs.Parts.{start_part, gone_words, unended_words, finish_part_of}
 use Rattle.dsa_explain_lines.specs.Parts.{any_reason, lists_part, wait_part_of, deed_part, issue_part_of, event_part}
-use Rattle.dsa_explain_lines.specs.Parts.{no_command_part, room_part, part_of}
+use Rattle.dsa_explain_lines.specs.Parts.{no_command_part, room_part, names_part, full_part, part_of}
 use Rattle.dsa_conform.proofs.Printable.{Shown, joined, chosen, listed, number, parts}
 use Rattle.dsa_conform.proofs.PrintableReasons.{kept, submit_words, engine_words, queue_words, fetch_words, start_words}
 use Rattle.dsa_conform.proofs.PrintableReasons.{finish_words, done_words, fate, unnamed, issue_words}
@@ -46,18 +48,12 @@ keeping : (w : Work) (g : ℕ) → Shown (keeping_part w g)
 keeping w g = listed (kept_part w g) (numbers_below w.setup.caps.groups) (λ other. search (chosen, kept) depth 8)
 
 pub queue_kept : (w : Work) (r : QueueReason) → Shown (queue_keeping w r)
-queue_kept w queue.Empty = refl
-queue_kept w (queue.NoSlot used slots) = refl
 queue_kept w (queue.NoBuffers want) = keeping w want.group
-queue_kept w (queue.OtherBatch batch) = refl
-queue_kept w (queue.OtherDrain drain) = refl
+queue_kept w _ = refl
 
 start_kept : (w : Work) (r : StartReason) → Shown (start_keeping w r)
-start_kept w start.Nothing = refl
-start_kept w (start.Fence member waits_for) = refl
-start_kept w (start.Failed member failed left) = refl
 start_kept w (start.NoBuffers want) = keeping w want.group
-start_kept w start.NoGroup = refl
+start_kept w _ = refl
 
 -- ---- engines
 
@@ -142,11 +138,16 @@ event_told s event.ClearError = told clear_sentence (clear_reason s.work.setup.n
 room : (n : ℕ) → Shown (room_part n)
 room n = search parts depth 16
 
+full : (now : Running) → Shown (full_part now)
+full now =
+    joined (room_part now.capacity) (names_part now) (room now.capacity)
+    (chosen (nat_lt now.capacity now.room) (codes ", as many as names were left") [] refl refl)
+
 no_command : (number reserved : ℕ) → Shown (no_command_part number reserved)
 no_command number reserved = search parts depth 16
 
 pub reason : (now : Running) (asked : Result Event BadWord) → Shown (part_of now asked)
 reason now (Err refused) = no_command (refused.word / 2 ^ 20 % 2 ^ 5) (refused.word / 2 ^ 25 % 2 ^ 6)
 reason now (Ok e) =
-    chosen (length now.history == now.capacity) (room_part now.capacity) (event_part now.state e)
-    (room now.capacity) (event_told now.state e)
+    chosen (length now.history == now.capacity) (full_part now) (event_part now.state e) (full now)
+    (event_told now.state e)

@@ -40,7 +40,8 @@ use Rattle.dsa_explain_lines.specs.Sentences.{first_of_words, done_sentence, by_
 use Rattle.dsa_explain_lines.specs.Sentences.{fate_sentence, unnamed_sentence, name_words, has_words, bound_words}
 use Rattle.dsa_explain_lines.specs.Sentences.{check_sentence}
 use Rattle.dsa_explain_lines.specs.Sentences.{named_words, whose_words, held_words, first_words, issue_sentence}
-use Rattle.dsa_explain_lines.specs.Sentences.{active_words, no_queue, wait_count, poll_sentence, list_words as words_of_list, write_sentence}
+use Rattle.dsa_explain_lines.specs.Sentences.{active_words, no_queue, wait_count, poll_sentence}
+use Rattle.dsa_explain_lines.specs.Sentences.{list_words as words_of_list, write_sentence}
 use Rattle.dsa_explain_lines.specs.Sentences.{clear_sentence}
 use Rattle.dsa_conform.proofs.Printable.{Shown, listed, number, parts}
 use Rattle.dsa_conform.proofs.PrintableAnswers.{IsNamed, first_named, or_words, label, with_operand, list_words, portal}
@@ -81,11 +82,8 @@ pub queueless : (e : ℕ) → Shown (no_queue e)
 queueless e = search parts depth 16
 
 pub queue_words : (q name : ℕ) (r : QueueReason) → Shown (queue_sentence q name r)
-queue_words q name queue.Empty = search parts depth 16
-queue_words q name (queue.NoSlot used slots) = search parts depth 16
 queue_words q name (queue.NoBuffers w) = search (parts, want) depth 16
-queue_words q name (queue.OtherBatch batch) = search parts depth 16
-queue_words q name (queue.OtherDrain drain) = search parts depth 16
+queue_words q name _ = search parts depth 16
 
 closed : (b : Bool) → Shown (closed_words b)
 closed true = refl
@@ -104,21 +102,17 @@ failed None = refl
 failed (Some name) = number name
 
 pub start_words : (e : ℕ) (r : StartReason) → Shown (start_sentence e r)
-start_words e start.Nothing = search parts depth 16
-start_words e (start.Fence member waits_for) = search parts depth 16
 start_words e (start.Failed member name left) = search (parts, failed) depth 16
 start_words e (start.NoBuffers w) = want w
-start_words e start.NoGroup = search parts depth 16
+start_words e _ = search parts depth 16
 
 pub finish_words : (e : ℕ) (r : FinishReason) → Shown (finish_sentence e r)
 finish_words e finish.NoEngine = number e
 finish_words e finish.NoEntry = refl
-finish_words e (finish.OtherName name) = search parts depth 16
 finish_words e (finish.Elsewhere l) = list_words l
 finish_words e finish.NotStarted = refl
-finish_words e (finish.MembersLeft left) = search parts depth 16
 finish_words e (finish.StillToFetch n count) = fetched e n count
-finish_words e (finish.DrainWaits first) = search parts depth 16
+finish_words e _ = search parts depth 16
 
 -- ---- entries that end
 
@@ -145,13 +139,12 @@ first_of count = search parts depth 16
 
 pub done_words : (r : DoneReason) → Shown (done_sentence r)
 done_words (done.NotSupported op) = unsupported op
-done_words done.FenceOutside = refl
 done_words (done.SizeOutside size shift q) =
     limits (codes "size ") (codes ", the transfer limit of q") size 1 shift q refl refl
 done_words (done.CountOutside count shift q) =
     limits (codes "count ") (codes ", the batch limit of q") count 2 shift q refl refl
 done_words (done.MembersFailed first n count) = search (parts, status, first_of) depth 16
-done_words done.PageFault = refl
+done_words _ = refl
 
 by : (r : Result Command Fault) → Shown (by_words r)
 by (Ok c) = label c
@@ -190,20 +183,9 @@ bounds bound.Need = refl
 
 check_words : (r : CheckReason) → Shown (check_sentence r)
 check_words (check.NamesMissing group n m) = search (parts, name, count) depth 16
-check_words (check.SizesTooLarge sizes total) = search parts depth 16
 check_words (check.TwoGroups n first second) = search (parts, name) depth 16
-check_words (check.ReservedTooMany reserved total) = search parts depth 16
 check_words (check.AllowedOutOfRange group allowed b) = search (parts, bounds) depth 16
-check_words (check.GroupWithoutEngine group) = search parts depth 16
-check_words (check.GroupWithoutQueue group) = search parts depth 16
-check_words (check.SizeZero q) = search parts depth 16
-check_words (check.PriorityZero q) = search parts depth 16
-check_words (check.PriorityTooLarge q priority) = search parts depth 16
-check_words (check.ThresholdZero q) = search parts depth 16
-check_words (check.ThresholdAboveSize q threshold size) = search parts depth 16
-check_words (check.BatchTooLarge q n most) = search parts depth 16
-check_words (check.TransferTooLarge q n most) = search parts depth 16
-check_words (check.NoGroup q) = search parts depth 16
+check_words _ = search parts depth 16
 
 missing : (o : Option ℕ) → Shown (named_words o)
 missing None = refl

@@ -1,7 +1,6 @@
 -- What is printed has the documented lines.
 use Rattle.std.proofs.Common.{◌≡◌, ◌∙◌, ◌+◌, ℕ, suc, List, [], ◌∷◌, ◌++◌, Bool, true, false, Option, Some, None, refl}
-use Rattle.std.proofs.Common.{sym}
-use Rattle.std.proofs.Common.{subst, ap}
+use Rattle.std.proofs.Common.{sym, subst, ap}
 use Rattle.std.proofs.Common.{append_assoc, append-nil, length, take, flat_map, codes, inl, inr}
 use Rattle.std.specs.{Fmt.{decimal}, Prelude.{replicate}}
 use Rattle.serde_json.specs.Data.{Data}
@@ -15,8 +14,8 @@ use Rattle.dsa_event_text.specs.Text.{count_text}
 use Rattle.dsa_explain_lines.specs.{Lines.{asked_words, is_taken, shown}, Parts.{part_of}}
 use Rattle.dsa_conform.specs.Quoted.{seen_text}
 use Rattle.dsa_conform.specs.Seen.{Seen}
-use Rattle.dsa_conform.specs.Lines.{conforms_text, flag_text, against_line, seen_words, seen_line, seen_count, asked_step_line}
-use Rattle.dsa_conform.specs.Lines.{allowed_line, difference_text}
+use Rattle.dsa_conform.specs.Lines.{conforms_text, flag_text, against_line, seen_words, seen_line, seen_count}
+use Rattle.dsa_conform.specs.Lines.{asked_step_line, allowed_line, difference_text}
 use Rattle.dsa_conform.specs.Run.{IsConforming, IsDifference, IsAllowedLine, IsVerdict, IsConformance}
 use Rattle.dsa_conform.specs.Every.{AreDifferences, AreDiffering, IsConformanceOf, IsFullVerdict, differs_text}
 use Rattle.dsa_conform.specs.Every.{unseen_at}
@@ -58,24 +57,27 @@ step_is_line n entry = record {
   printable = search (parts, asked) depth 16;
 }
 
+-- a line of two parts behind its word
+in_two : (word first second : List ℕ) → Shown (word ++ (first ++ second))
+    → IsLineWith word (word ++ (first ++ (second ++ codes "\n")))
+in_two word first second printed = record {
+  rest = first ++ second;
+  is = simp append_assoc;
+  printable = printed;
+}
+
 conforms_is_line : (steps seen : ℕ) → IsLineWith (codes "conforms: ") (conforms_text steps seen)
 conforms_is_line steps seen =
     let counts : List ℕ = count_text [] steps (codes "step") (codes "steps")
     ++ count_text (codes ", ") seen (codes "answer") (codes "answers") in
     let printed : Shown (counts ++ codes " seen") = search parts depth 24 in
-    record {
-      rest = counts ++ codes " seen";
-      is = ap (λ l. codes "conforms: " ++ l) (sym (append_assoc counts (codes " seen") (codes "\n")));
-      printable = printed;
-    }
+    in_two (codes "conforms: ") counts (codes " seen") printed
 
 allowed_is_line : (told : List ℕ) (entry : Record) → Shown told → Shown (record_text entry)
     → IsLineWith (codes "allowed: ") (allowed_line told entry)
-allowed_is_line told entry p q = record {
-  rest = record_text entry ++ shown told entry;
-  is = ap (λ l. codes "allowed: " ++ l) (sym (append_assoc (record_text entry) (shown told entry) (codes "\n")));
-  printable = joined (record_text entry) (shown told entry) q (chosen (is_taken entry) [] told refl p);
-}
+allowed_is_line told entry p q =
+    in_two (codes "allowed: ") (record_text entry) (shown told entry)
+    (joined (record_text entry) (shown told entry) q (chosen (is_taken entry) [] told refl p))
 
 -- ---- all lines
 
@@ -143,11 +145,7 @@ differs_is_line differing steps seen =
     let counts : List ℕ = count_text [] differing (codes "step") (codes "steps") ++ codes " of " ++ decimal steps
     ++ count_text (codes ", ") seen (codes "answer") (codes "answers") in
     let printed : Shown (counts ++ codes " seen") = search parts depth 24 in
-    record {
-      rest = counts ++ codes " seen";
-      is = ap (λ l. codes "differs: " ++ l) (sym (append_assoc counts (codes " seen") (codes "\n")));
-      printable = printed;
-    }
+    in_two (codes "differs: ") counts (codes " seen") printed
 
 lines_joined : (words more : List (List ℕ)) (text rest : List ℕ) → AreLinesWith words text → AreLinesWith more rest
     → AreLinesWith (words ++ more) (text ++ rest)
@@ -200,15 +198,7 @@ judged : (caps : Caps) (capacity : ℕ) (steps : List Data) (f : Option Scenario
 judged caps capacity steps None text h = conforming_report caps capacity steps text h
 judged caps capacity steps (Some (fault.Differs i)) text h =
     differing_report caps capacity (take i h.observed) h.here i text h.differs
-judged caps capacity steps (Some fault.Read) text h = absurd h
-judged caps capacity steps (Some fault.TooLong) text h = absurd h
-judged caps capacity steps (Some fault.NotJson) text h = absurd h
-judged caps capacity steps (Some fault.BadDocument) text h = absurd h
-judged caps capacity steps (Some (fault.BadStep i)) text h = absurd h
-judged caps capacity steps (Some fault.BadCaps) text h = absurd h
-judged caps capacity steps (Some fault.BadCapacity) text h = absurd h
-judged caps capacity steps (Some fault.Write) text h = absurd h
-judged caps capacity steps (Some fault.OutOfMemory) text h = absurd h
+judged caps capacity steps (Some _) text h = absurd h
 
 all_judged : (caps : Caps) (capacity : ℕ) (steps : List Data) (f : Option ScenarioFault) (text : List ℕ)
     → IsFullVerdict caps capacity steps f text → IsFullReport f text
@@ -228,11 +218,4 @@ pub report : (bytes : List ℕ) (f : Option ScenarioFault) (text : List ℕ) →
 report bytes (Some (fault.BadStep i)) text h = h.1
 report bytes None text h = judged h.caps h.capacity h.steps None text h.verdict
 report bytes (Some (fault.Differs i)) text h = judged h.caps h.capacity h.steps (Some (fault.Differs i)) text h.verdict
-report bytes (Some fault.Read) text h = judged h.caps h.capacity h.steps (Some fault.Read) text h.verdict
-report bytes (Some fault.TooLong) text h = judged h.caps h.capacity h.steps (Some fault.TooLong) text h.verdict
-report bytes (Some fault.NotJson) text h = judged h.caps h.capacity h.steps (Some fault.NotJson) text h.verdict
-report bytes (Some fault.BadDocument) text h = judged h.caps h.capacity h.steps (Some fault.BadDocument) text h.verdict
-report bytes (Some fault.BadCaps) text h = judged h.caps h.capacity h.steps (Some fault.BadCaps) text h.verdict
-report bytes (Some fault.BadCapacity) text h = judged h.caps h.capacity h.steps (Some fault.BadCapacity) text h.verdict
-report bytes (Some fault.Write) text h = judged h.caps h.capacity h.steps (Some fault.Write) text h.verdict
-report bytes (Some fault.OutOfMemory) text h = judged h.caps h.capacity h.steps (Some fault.OutOfMemory) text h.verdict
+report bytes (Some _) text h = absurd h.verdict

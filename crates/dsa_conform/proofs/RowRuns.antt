@@ -3,7 +3,8 @@ use Rattle.dsa_book.specs.declared.answer.Reply.TheVariants as reply
 use Rattle.dsa_book.specs.declared.event.Event.TheVariants as event
 use Rattle.dsa_book.specs.declared.answer.PollAnswer.TheVariants as poll
 use Rattle.std.specs.Fmt.{digits}
-use Rattle.std.proofs.Common.{◌≡◌, inl, inr, ℕ, true, false, List, [], ◌∷◌, ◌++◌, Ok, refl, sym, ap, subst, codes, Result, ◌∙◌, ◌≤◌, ◌^◌, arith, lit≤}
+use Rattle.std.proofs.Common.{◌≡◌, inl, inr, ℕ, true, false, List, [], ◌∷◌, ◌++◌, Ok, refl, sym, ap, subst, codes}
+use Rattle.std.proofs.Common.{Result, ◌∙◌, ◌≤◌, ◌^◌, arith, lit≤}
 use Rattle.dsa_base.{specs.Lists.{In}, proofs.Tables.{not-both}}
 use Rattle.dsa_regs.specs.declared.{Caps.{Caps}, Fault.{Fault, TheVariants.{BadCommand}}}
 use Rattle.dsa_book.specs.declared.event.Event.{Event}
@@ -17,14 +18,16 @@ use Rattle.dsa_explain_lines.specs.Parts.{part_of}
 use Rattle.dsa_conform.specs.{Against.{fact_against}, Allowed.{IsAllowed}}
 use Rattle.dsa_conform.specs.Lines.{allowed_line, difference_text}
 use Rattle.dsa_conform.specs.Run.{IsShownRun, IsDifference, IsAllowedLine, IsReason, AreAllLines}
-use Rattle.dsa_conform.specs.{Seen.{Seen, nothing_seen, shows, AreShown}, Ways.{RunFrom}, Worked.{answered, smallest_device_at_first}}
+use Rattle.dsa_conform.specs.{Seen.{Seen, nothing_seen, shows, AreShown}, Ways.{RunFrom}}
+use Rattle.dsa_conform.specs.Worked.{answered, smallest_device_at_first}
 use Rattle.dsa_conform.proofs.Runs.{ends_with, run_of}
 use Rattle.dsa_conform.proofs.SeenAlike.{only_entry}
 
 -- all runs of these steps lead to one state, and ask the same there
 abbrev pub LeadTo : Caps → ℕ → List (Action × Seen) → Action → Running → Result Event BadWord → Type 0
 LeadTo caps capacity before action now asked = (records : List Record) → (after : Running)
-    → RunFrom [] (running_at_first caps capacity) before records after → (after ≡ now) × (event_of records action ≡ asked)
+    → RunFrom [] (running_at_first caps capacity) before records after
+    → (after ≡ now) × (event_of records action ≡ asked)
 
 -- where one answer may come there, its line is all there is to tell
 pub all_lines : (caps : Caps) (capacity : ℕ) (before : List (Action × Seen)) (action : Action)
@@ -69,7 +72,8 @@ all_lines caps capacity before action now asked entry some i run lead may only =
 
     each : (line : Record × List ℕ) → In line ((entry, allowed_line (part_of now asked) entry) ∷ [])
         → IsAllowedLine caps capacity before action line.0 line.1
-    each line (inl same) = subst (λ (l : Record × List ℕ). IsAllowedLine caps capacity before action l.0 l.1) same first_line
+    each line (inl same) =
+        subst (λ (l : Record × List ℕ). IsAllowedLine caps capacity before action l.0 l.1) same first_line
     each line (inr none) = absurd none
 
 -- and where it does not show what was seen, there is a difference
@@ -79,7 +83,8 @@ pub differs : (caps : Caps) (capacity : ℕ) (before : List (Action × Seen)) (h
     → LeadTo caps capacity before here.0 now asked → IsAllowed now asked entry
     → ((other : Record) → IsAllowed now asked other → entry ≡ other) → shows here.1 entry ≡ false
     → IsDifference caps capacity before here number
-    (difference_text number here.1 (fact_against now asked here.1) ((entry, allowed_line (part_of now asked) entry) ∷ []))
+    (difference_text number here.1 (fact_against now asked here.1)
+    ((entry, allowed_line (part_of now asked) entry) ∷ []))
 differs caps capacity before here number now asked entry some i run lead may only fails = record {
   some = some;
   run = run;
@@ -131,8 +136,8 @@ none_leads action e asks [] after h = (sym h, asks [])
 none_leads action e asks (r ∷ rs) after h = absurd h
 
 -- a word that is no command, of whose refusal nothing was seen
-pub word_leads : LeadTo smallest_caps 9 ((Refuse no_command, nothing_seen) ∷ []) (Ask event.Poll) smallest_device_at_first
-    (Ok event.Poll)
+pub word_leads : LeadTo smallest_caps 9 ((Refuse no_command, nothing_seen) ∷ []) (Ask event.Poll)
+    smallest_device_at_first (Ok event.Poll)
 word_leads [] after h = absurd h
 word_leads (Stepped x ∷ rs) after h = absurd (let other = h.1.answers in cc)
 word_leads (Refused f ∷ []) after h = (sym h.2 ∙ h.1.leads, refl)

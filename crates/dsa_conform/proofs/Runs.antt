@@ -27,12 +27,14 @@ use Rattle.dsa_scenario.specs.declared.actions.BadWord.{BadWord}
 use Rattle.dsa_scenario.specs.declared.actions.Action.{Action, TheVariants.{Ask, Finish, Refuse}}
 use Rattle.dsa_scenario.specs.declared.run.Record.{Record, TheVariants.{Stepped, Refused}}
 use Rattle.dsa_scenario.specs.{Lines.{reply_text}, Steps.{standing}}
-use Rattle.dsa_scenario.specs.Run.{ticket_given_by, given_by_reply, event_of, answered_by, AreOf, Leads, steps_of_records}
+use Rattle.dsa_scenario.specs.Run.{ticket_given_by, given_by_reply, event_of, answered_by, AreOf, Leads}
+use Rattle.dsa_scenario.specs.Run.{steps_of_records}
 use Rattle.dsa_scenario.proofs.{Records.{Goes, goes_nowhere, goes_on}, Walks.{stands}}
 use Rattle.dsa_conform.specs.Allowed.{AreSeenAlike}
 use Rattle.dsa_conform.specs.Run.{IsShownRun}
 use Rattle.dsa_conform.specs.Seen.{Seen, nameless_reply, zf_of_step, AreShown}
-use Rattle.dsa_conform.specs.Ways.{AreDevicesAlike, AreNamedEnds, IsNamedEnd, IsStepOfRun, RunFrom, queue_of_reply, queue_of_record, queues_taken}
+use Rattle.dsa_conform.specs.Ways.{AreDevicesAlike, AreNamedEnds, IsNamedEnd, IsStepOfRun, RunFrom, queue_of_reply}
+use Rattle.dsa_conform.specs.Ways.{queue_of_record, queues_taken}
 use Rattle.dsa_conform.proofs.SeenAlike.{stepped, alike}
 
 -- ---- a run, record by record
@@ -156,7 +158,7 @@ run_of caps capacity observed records i h =
     let r = run_from (running_at_first caps capacity) [] (running_at_first caps capacity) observed records
     (goes_nowhere caps capacity i) h.of_actions h.shown h.run in
     subst (λ e. RunFrom [] (running_at_first caps capacity) observed records e)
-    (sym (stands caps capacity records r.0 r.2.run)) r.1
+    (sym (stands caps capacity records r.0 r.2)) r.1
 
 -- ---- what holds along a run
 
@@ -177,15 +179,16 @@ full-gives gs _ = refl
 given-more : (before : List Record) (x : Step)
     → given_after (filter_map ticket_given_by before) x.reply ≡ filter_map ticket_given_by (before ++ Stepped x ∷ [])
 given-more before x =
-    given-by (filter_map ticket_given_by before) x.reply ∙ sym (filter_map-append ticket_given_by before (Stepped x ∷ []))
+    given-by (filter_map ticket_given_by before) x.reply
+    ∙ sym (filter_map-append ticket_given_by before (Stepped x ∷ []))
 
 pub good_step : (before : List Record) (d m : Running) (r : Record) → IsGood before d → Leads d r m
     → IsGood (before ++ r ∷ []) m
 good_step before d m (Stepped x) good leads = record {
   replay = answered-replay d m x.event x.reply good.replay leads;
   given = subst (λ gs. HeldAsGiven gs m.state) (given-more before x)
-      (answered_by_cases (λ t. HeldAsGiven (given_after (filter_map ticket_given_by before) x.reply) t.state) d m x.event
-      x.reply leads
+      (answered_by_cases (λ t. HeldAsGiven (given_after (filter_map ticket_given_by before) x.reply) t.state) d m
+      x.event x.reply leads
       (λ room full. subst (λ gs. HeldAsGiven gs d.state)
       (sym (ap (given_after (filter_map ticket_given_by before)) (equal-replies x.reply (full_reply x.event) full)
       ∙ full-gives (filter_map ticket_given_by before) x.event)) good.given)
@@ -201,7 +204,8 @@ good_step before d m (Refused fault) good same =
           (subst (λ (t : Running). HeldAsGiven (filter_map ticket_given_by before) t.state) (sym same) good.given);
     }
 
-pub good_run : (before : List Record) (d : Running) (observed : List (Action × Seen)) (rs : List Record) (after : Running)
+pub good_run : (before : List Record) (d : Running) (observed : List (Action × Seen)) (rs : List Record)
+    (after : Running)
     → IsGood before d → RunFrom before d observed rs after → IsGood (before ++ rs) after
 good_run before d [] [] after good h =
     subst (λ b. IsGood b after) (sym (append-nil before)) (subst (IsGood before) h good)
@@ -351,7 +355,8 @@ grown d e m n x y alike h k same states =
       capacity = g.capacity ∙ alike.capacity ∙ sym f.capacity;
       count = ap length g.history ∙ length-after d.history (record { event = x.event; reply = x.reply })
           ∙ ap (λ k. k + cond (is_stored x.reply) 1 0) alike.count
-          ∙ ap (λ b. length e.history + cond b 1 0) stored ∙ sym (length-after e.history (record { event = y.event; reply = y.reply })) ∙ ap length (sym f.history);
+          ∙ ap (λ b. length e.history + cond b 1 0) stored
+          ∙ sym (length-after e.history (record { event = y.event; reply = y.reply })) ∙ ap length (sym f.history);
       states = states;
     }
 
@@ -475,15 +480,18 @@ queues_of_run (Stepped x ∷ rs) = by (queues_of_run rs) (is_stored x.reply) ref
     kept (reply.Dispatch (Taken t q)) h = absurd cc
     kept _ h = refl
 
-    more : queues_taken (stored_steps (steps_of_records rs)) ≡ queues_told rs → (o : Option ℕ) → queue_of_reply x.reply ≡ o
+    more : queues_taken (stored_steps (steps_of_records rs)) ≡ queues_told rs → (o : Option ℕ)
+        → queue_of_reply x.reply ≡ o
         → queues_taken (x ∷ stored_steps (steps_of_records rs)) ≡ queues_told (Stepped x ∷ rs)
     more ih None is =
-        let a : queues_taken (x ∷ stored_steps (steps_of_records rs)) ≡ queues_taken (stored_steps (steps_of_records rs)) =
+        let a : queues_taken (x ∷ stored_steps (steps_of_records rs))
+        ≡ queues_taken (stored_steps (steps_of_records rs)) =
         rw is refl in
         let b : queues_told (Stepped x ∷ rs) ≡ queues_told rs = rw is refl in
         a ∙ ih ∙ sym b
     more ih (Some q) is =
-        let a : queues_taken (x ∷ stored_steps (steps_of_records rs)) ≡ q ∷ queues_taken (stored_steps (steps_of_records rs)) =
+        let a : queues_taken (x ∷ stored_steps (steps_of_records rs))
+        ≡ q ∷ queues_taken (stored_steps (steps_of_records rs)) =
         rw is refl in
         let b : queues_told (Stepped x ∷ rs) ≡ q ∷ queues_told rs = rw is refl in
         a ∙ ap (λ l. q ∷ l) (ih) ∙ sym b

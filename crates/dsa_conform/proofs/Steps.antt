@@ -11,13 +11,13 @@ use Rattle.serde_json.specs.{Data.{Data}, View.{view}, declared.value.Value.{Val
 use Rattle.dsa_scenario.specs.declared.{faults.ScenarioFault.{ScenarioFault}}
 use Rattle.dsa_scenario.specs.declared.faults.ScenarioFault.TheVariants as fault
 use Rattle.dsa_scenario.specs.{Document.{HasHead, IsOpenable}}
-use Rattle.dsa_conform.specs.declared.way.Way.{Way}
+use Rattle.dsa_conform.specs.declared.{way.Way.{Way}, sights.Sights.{Sights}}
 use Rattle.dsa_scenario.specs.declared.actions.Action.{Action}
 use Rattle.dsa_conform.specs.Lines.{conforms_text, seen_count}
 use Rattle.dsa_conform.specs.Run.{AreRead, IsConforming, IsDifference, IsDiffering, IsFollowedTo, IsToldOf}
-use Rattle.dsa_conform.specs.{Seen.{Seen, is_seen, observation_of}, Sights.{step_at}}
+use Rattle.dsa_conform.specs.{Seen.{Seen, is_seen, observation_of}, Sights.{step_at, steps_counted}}
 use Rattle.dsa_conform.specs.Ways.{AreFollowed, IsReadTo}
-use Rattle.dsa_conform.proofs.{Objects.{at_item, read_at, as_many_read}, Walks.{reached}}
+use Rattle.dsa_conform.proofs.{Bare.{length_counted}, Objects.{at_item, read_at, as_many_read}, Walks.{reached}}
 use Rattle.dsa_conform.proofs.NamedEnds.{step_named, all_named, take_named}
 
 -- a device that has come by one step more of those that are read
@@ -64,16 +64,29 @@ differs_at steps observed i here caps capacity text read reads h = record {
   differs = h;
 }
 
+-- so many answers were seen of the first steps
+pub record IsCountedTo (steps : List Data) (observed : List (Action × Seen)) (i answers : ℕ) : Type 0 where
+  pub read : AreRead steps observed
+  pub counted : answers ≡ seen_count (take i observed)
+  pub at_most : answers ≤ i
+
+-- as many were counted as came, at most
+not_more : (b : Bool) (answers more i : ℕ) → more ≡ answers + cond b 1 0 → answers ≤ i → more ≤ i + 1
+not_more true answers more i adds h = omega (arith, adds, h)
+not_more false answers more i adds h = omega (arith, adds, h)
+
 -- one observation more is counted
-pub count_more : (steps : List Data) (observed : List (Action × Seen)) (i : ℕ) (here : Action × Seen)
-    (answers more : ℕ) → AreRead steps observed → Some here ≡ step_at steps i
-    → more ≡ answers + cond (is_seen here.1) 1 0
-    → answers ≡ seen_count (take i observed) → more ≡ seen_count (take (i + 1) observed)
-count_more steps observed i here answers more read reads adds h =
-    let at = read_at steps observed i here read reads in
-    adds ∙ ap (λ n. n + cond (is_seen here.1) 1 0) h
-    ∙ sym (sum_by_push (λ (o : Action × Seen). cond (is_seen o.1) 1 0) (take i observed) here)
-    ∙ ap seen_count (sym at.more)
+pub count_more : {steps : List Data} {observed : List (Action × Seen)} {i answers : ℕ} (here : Action × Seen)
+    (more : ℕ) → IsCountedTo steps observed i answers → Some here ≡ step_at steps i
+    → more ≡ answers + cond (is_seen here.1) 1 0 → IsCountedTo steps observed (i + 1) more
+count_more {steps} {observed} {i} {answers} here more h reads adds = record {
+  read = h.read;
+  counted =
+      adds ∙ ap (λ n. n + cond (is_seen here.1) 1 0) h.counted
+      ∙ sym (sum_by_push (λ (o : Action × Seen). cond (is_seen o.1) 1 0) (take i observed) here)
+      ∙ ap seen_count (sym (read_at steps observed i here h.read reads).more);
+  at_most = not_more (is_seen here.1) answers more i adds h.at_most;
+}
 
 -- a step that is read is one
 never_unread : (steps : List Data) (observed : List (Action × Seen)) (i : ℕ) → AreRead steps observed
@@ -91,35 +104,37 @@ pub reads_item : (steps : List Data) (observed : List (Action × Seen)) (i : ℕ
     → i < length steps → None ≡ step_at steps i → X
 reads_item steps observed i read inside none = absurd (never_unread steps observed i read inside none)
 
+pub reads_counted : (sights : Sights) (observed : List (Action × Seen)) (i : ℕ) {X : Type 0}
+    → AreRead (steps_counted sights) observed → i < length sights.head.now.steps.now
+    → None ≡ step_at (steps_counted sights) i → X
+reads_counted sights observed i read inside none =
+    absurd (never_unread (steps_counted sights) observed i read (rw (length_counted sights) inside) none)
+
 pub reads_value : (vs : List Value) (observed : List (Action × Seen)) (i : ℕ) (v : Value) {X : Type 0}
     → AreRead (map view vs) observed → i < length vs → v ≡ get_or vs i v → None ≡ observation_of (view v) → X
 reads_value vs observed i v read inside is none =
-    reads_item (map view vs) observed i read (subst (λ n. i < n) (sym (length-map vs view)) inside)
-    (at_item vs i v None inside is none)
+    absurd (never_unread (map view vs) observed i read (rw length-map inside) (at_item vs i v None inside is none))
 
 -- all of them were followed
-pub conforms : (steps : List Data) (observed : List (Action × Seen)) (i count : ℕ) (caps : Caps) (capacity : ℕ)
-    (ways : List Way) (answers : ℕ) (text : List ℕ) → AreRead steps observed → length steps ≡ count → count ≤ i
-    → AreFollowed caps capacity (take i observed) i ways → answers ≡ seen_count (take i observed)
-    → text ≡ conforms_text count answers → IsConforming caps capacity steps text
-conforms steps observed i count caps capacity ways answers text read many past h counted told =
-    let whole : length observed ≡ count = as_many_read steps observed read ∙ many in
+pub conforms : (sights : Sights) {observed : List (Action × Seen)} {i answers : ℕ} {caps : Caps} {capacity : ℕ}
+    {ways : List Way} (text : List ℕ) → IsCountedTo (steps_counted sights) observed i answers
+    → AreFollowed caps capacity (take i observed) i ways → length sights.head.now.steps.now ≤ i
+    → text ≡ conforms_text (length sights.head.now.steps.now) answers
+    → IsConforming caps capacity (steps_counted sights) text
+conforms sights {observed} {i} {answers} {caps} {capacity} text counted h past told =
+    let whole : length observed ≡ length sights.head.now.steps.now =
+    as_many_read (steps_counted sights) observed counted.read ∙ length_counted sights in
     let all : take i observed ≡ observed = take_all i observed (rw whole past) in
     let way = h.some in
     let at = reached caps capacity way.0.device observed i way.0.tickets.items
     (subst (λ done. IsFollowedTo caps capacity done i way.0.device way.0.tickets.items) all (h.each way.0 way.1)) in
     record {
       observed = observed;
-      read = read;
+      read = counted.read;
       records = at.records;
       run = at.run;
-      told = told ∙ rw (whole, ← all, ← counted) refl;
+      told = told ∙ rw (whole, ← all, ← counted.counted) refl;
     }
-
--- as many were counted as came, at most
-pub at_most : (b : Bool) (answers more i : ℕ) → more ≡ answers + cond b 1 0 → answers ≤ i → more ≤ i + 1
-at_most true answers more i adds h = omega (arith, adds, h)
-at_most false answers more i adds h = omega (arith, adds, h)
 
 -- what is told of the steps of a document
 pub told_of : (is_told : Caps → ℕ → List Data → Option ScenarioFault → List ℕ → Type 0)

@@ -68,7 +68,8 @@ pub seen_more : (count : ℕ) (os : List (Action × Seen)) (o : Action × Seen) 
     → seen_before count (os ++ o ∷ []) ≡ seen_before count os ++ (o.0, seen) ∷ []
 seen_more zero [] o seen first other = ap (λ (s : Seen). (o.0, s) ∷ []) (sym (other (omega arith)))
 seen_more zero (x ∷ xs) o seen first other =
-    ap (λ l. (x.0, nothing_seen) ∷ l) (seen_more zero xs o seen (λ h. absurd (omega (arith, h))) (λ h. other (omega arith)))
+    ap (λ l. (x.0, nothing_seen) ∷ l) (seen_more zero xs o seen (λ h. absurd (omega (arith, h)))
+    (λ h. other (omega arith)))
 seen_more (suc n) [] o seen first other = ap (λ (s : Seen). (o.0, s) ∷ []) (sym (first (omega arith)))
 seen_more (suc n) (x ∷ xs) o seen first other =
     ap (λ l. x ∷ l) (seen_more n xs o seen (λ h. first (omega (arith, h))) (λ h. other (omega (arith, h))))

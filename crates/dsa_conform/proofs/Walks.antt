@@ -10,7 +10,7 @@ use Rattle.dsa_device.specs.{Running.{Running}}
 use Rattle.dsa_scenario.specs.declared.{actions.Action.{Action}, run.Record.{Record}}
 use Rattle.dsa_scenario.specs.Run.{ticket_given_by, event_of, answered_by, Leads, IsTable}
 use Rattle.dsa_scenario.specs.Steps.{standing, Visit, visits, IsAtFirst}
-use Rattle.dsa_scenario.proofs.Walks.{stands, one_more, opened}
+use Rattle.dsa_scenario.proofs.Walks.{walk_stands, one_more, opened}
 use Rattle.dsa_conform.specs.Run.{IsShownRun, IsFollowedTo}
 use Rattle.dsa_conform.specs.Seen.{Seen, is_seen, answer_shown, zf_shown, shows, AreShown}
 
@@ -77,7 +77,7 @@ reached caps capacity now done number tickets h = record {
     run = rw h.run.added h.run.allowed;
     shown = subst (λ rs. AreShown (map (λ o. o.1) done) rs) (entries-visits caps capacity [] h.records) h.made;
   };
-  stands = stands caps capacity h.records now h.run;
+  stands = walk_stands ShowAll caps capacity (map (λ o. o.0) done) number now tickets (map (λ o. o.1) done) h;
   table = h.table;
 }
 
@@ -94,7 +94,8 @@ shown_run caps capacity done number now tickets h = record {
 pub stands_at : (caps : Caps) (capacity : ℕ) (done : List (Action × Seen)) (number : ℕ) (now : Running)
     (tickets : List Ticket) (h : IsFollowedTo caps capacity done number now tickets)
     → standing caps capacity h.records ≡ now
-stands_at caps capacity done number now tickets h = stands caps capacity h.records now h.run
+stands_at caps capacity done number now tickets h =
+    walk_stands ShowAll caps capacity (map (λ o. o.0) done) number now tickets (map (λ o. o.1) done) h
 
 -- a new device has come by nothing
 pub followed_none : (caps : Caps) (capacity : ℕ) (now : Running) (tickets : List Ticket)

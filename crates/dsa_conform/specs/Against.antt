@@ -8,13 +8,12 @@ use Rattle.dsa_admin.specs.declared.reasons.PollReason.TheVariants as poll
 use Rattle.std.specs.Prelude.{ℕ, ◌==◌, ◌&&◌, ◌||◌, Bool, true, false, cond, nat_eq, nat_lt, List, [], ◌∷◌, ◌++◌, codes, decimal}
 use Rattle.std.specs.Prelude.{bytes_eq, drop, length, find, slice_get, min, option_map, unwrap_or, is_none, Option, Some, None}
 use Rattle.std.specs.Prelude.{Result, Ok, Err}
-use Rattle.std.specs.List.{before_first, list_any, starts_with, ends_with}
+use Rattle.std.specs.List.{starts_with, ends_with}
 use Rattle.std.specs.Option.{option_map_or}
 use Rattle.dsa_base.specs.Numbers.{numbers_below}
-use Rattle.dsa_desc.specs.declared.Outcome.{Outcome}
-use Rattle.dsa_regs.specs.{declared.{Command.{Command}, layout.ListUse.{ListUse}}, Caps.{list_use}}
+use Rattle.dsa_regs.specs.{declared.{Command.{Command}}, Caps.{list_use}}
 use Rattle.dsa_store.specs.Content.{list_of_cell}
-use Rattle.dsa_book.specs.declared.event.{Event.{Event}, Portal.{Portal}, Kind.{Kind, TheVariants.{Enqcmd, Movdir64b}}}
+use Rattle.dsa_book.specs.declared.event.{Event.{Event}, Portal.{Portal}, Kind.{TheVariants.{Enqcmd, Movdir64b}}}
 use Rattle.dsa_book.specs.declared.answer.{Ticket.{Ticket}, Reply.{Reply}, DispatchAnswer.TheVariants.{Taken}, NotedError.{NotedError}}
 use Rattle.dsa_book.specs.{State.{Intake, Work, State, has_queue}, Work.{front_of, group_of_engine}, Machine.{intake_of}}
 use Rattle.dsa_book.specs.declared.note.ActiveCommand.{ActiveCommand}
@@ -22,7 +21,6 @@ use Rattle.dsa_admin.specs.Command.{issue_reason}
 use Rattle.dsa_queues.specs.declared.reasons.SubmitReason.{SubmitReason, TheVariants.{NotEnabled, WrongKind, AtLimit}}
 use Rattle.dsa_queues.specs.Submission.{submit_reason, submit_reasons}
 use Rattle.dsa_engines.specs.declared.reasons.{EngineReason.{EngineReason}, QueueReason.{QueueReason}}
-use Rattle.dsa_engines.specs.declared.reasons.FinishReason.{FinishReason}
 use Rattle.dsa_engines.specs.{Dispatch.{engine_reason, queue_reason}, Batch.{name_of_entry}}
 use Rattle.dsa_engines.specs.Finish.{fetched_count, member_total, finish_reason}
 use Rattle.dsa_device.specs.Running.{Running}
@@ -32,6 +30,7 @@ use Rattle.dsa_explain_lines.specs.Parts.{part_of, queue_keeping}
 use Rattle.dsa_explain_lines.specs.Sentences.{submit_sentence, engine_sentence, queue_sentence, fetch_sentence}
 use Rattle.dsa_explain_lines.specs.Sentences.{finish_sentence, issue_sentence, poll_sentence, wait_count}
 use Rattle.dsa_conform.specs.Allowed.{offer, offers, queue_taken}
+use Rattle.dsa_conform.specs.Answers.{is_answer_to, is_refusal_text, leading_word}
 use Rattle.dsa_conform.specs.Facts.{never_words, room_words, next_name_words, queue_count_words, not_of_group_words}
 use Rattle.dsa_conform.specs.Facts.{may_take_words, may_start_words, waits_for_nothing_words, no_failure_words}
 use Rattle.dsa_conform.specs.Facts.{removes_nothing_words, unlocked_words, noted_words, front_is_words}
@@ -39,39 +38,9 @@ use Rattle.dsa_conform.specs.Seen.{Seen}
 
 -- ---- answers that a step may have
 
--- what comes before the first blank of a text
-abbrev pub leading_word : List ℕ → List ℕ
-leading_word text = before_first (λ b. b == 32) text
-
 -- the text of the answer that was seen, where one was
 abbrev pub text_seen : Seen → List ℕ
 text_seen seen = unwrap_or seen.answer []
-
--- the answers to such a step, or the words that they begin with, but for that of a full history (profile)
-abbrev pub answers_to : Event → List (List ℕ)
-answers_to (event.Submit client queue portal (Enqcmd pasid) desc) =
-    codes "accepted" ∷ codes "retry not-enabled" ∷ codes "retry wrong-kind" ∷ codes "retry at-limit" ∷ []
-answers_to (event.Submit client queue portal Movdir64b desc) =
-    codes "accepted" ∷ codes "dropped not-enabled" ∷ codes "dropped wrong-kind" ∷ codes "dropped at-limit" ∷ []
-answers_to (event.Dispatch engine) = codes "taken" ∷ codes "idle" ∷ []
-answers_to (event.Fetch engine desc) = codes "fetched" ∷ codes "no-batch" ∷ codes "all-fetched" ∷ []
-answers_to (event.Start engine) =
-    codes "started" ∷ codes "fence-wait" ∷ codes "no-buffers" ∷ codes "abandoned" ∷ codes "nothing" ∷ []
-answers_to (event.Finish engine ticket outcome) = codes "done" ∷ codes "not-ready" ∷ codes "gone" ∷ []
-answers_to (event.Issue command) = codes "ended" ∷ codes "active" ∷ codes "refused" ∷ []
-answers_to event.Poll = codes "finished" ∷ codes "active" ∷ codes "nothing" ∷ []
-answers_to (event.WriteQueue queue config) = codes "written" ∷ codes "refused" ∷ []
-answers_to (event.WriteGroup group config) = codes "written" ∷ codes "refused" ∷ []
-answers_to event.ClearError = codes "cleared" ∷ codes "nothing" ∷ []
-
--- the text is one of them
-abbrev pub is_among_answers : Event → List ℕ → Bool
-is_among_answers e text = list_any (bytes_eq text) (answers_to e)
-
--- such a step may be answered with this text, as far as it is known by its first word
-abbrev pub is_answer_to : Event → List ℕ → Bool
-is_answer_to e text =
-    bytes_eq text (codes "full") || (is_among_answers e text || is_among_answers e (leading_word text))
 
 -- the step reports a zero flag
 abbrev pub reports_zf : Event → Bool
@@ -92,7 +61,7 @@ is_possible e seen = may_have_answer e seen.answer && may_report e seen.zf
 
 -- a word that is no command is always refused
 abbrev pub is_refusal : Seen → Bool
-is_refusal seen = bytes_eq (leading_word (text_seen seen)) (codes "refused") && is_none seen.zf
+is_refusal seen = is_refusal_text (text_seen seen) && is_none seen.zf
 
 abbrev pub kind_label : Event → List ℕ
 kind_label (event.Submit client queue portal (Enqcmd pasid) desc) = codes "enqcmd"

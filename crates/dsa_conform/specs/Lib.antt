@@ -2,6 +2,7 @@ pub mod Seen
 pub mod Allowed
 pub mod Quoted
 pub mod Facts
+pub mod Answers
 pub mod Against
 pub mod Lines
 pub mod Sights

@@ -5,7 +5,7 @@ use Rattle.std.specs.Prelude.{◌≡◌, ℕ, ◌+◌, true, List, [], ◌∷◌
 use Rattle.std.specs.Prelude.{Option, Some, None, Result, ◌⊎◌}
 use Rattle.serde_json.specs.Data.{Data}
 use Rattle.dsa_base.specs.Lists.{In}
-use Rattle.dsa_regs.specs.{declared.{Caps.{Caps}, Fault.{Fault}}, Config.{queue_at}}
+use Rattle.dsa_regs.specs.{declared.{Caps.{Caps}}, Config.{queue_at}}
 use Rattle.dsa_store.specs.{declared.entry.Entry.{Entry}, Content.{HeldEntry, chain}}
 use Rattle.dsa_book.specs.declared.{answer.{Reply.{Reply}, DispatchAnswer.TheVariants.{Taken}}}
 use Rattle.dsa_book.specs.declared.{event.{Event.{Event}, Step.{Step}}}

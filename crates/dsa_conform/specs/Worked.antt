@@ -14,8 +14,10 @@ use Rattle.dsa_book.specs.declared.event.{Event.{Event}, Kind.TheVariants.{Enqcm
 use Rattle.dsa_book.specs.declared.event.{Portal.TheVariants.{Limited}}
 use Rattle.dsa_desc.specs.declared.Outcome.TheVariants.{Success}
 use Rattle.dsa_device.specs.Running.{Running, running_at_first}
-use Rattle.dsa_regs.specs.declared.{Caps.{Caps}, QueueConfig.{QueueConfig}, Fault.TheVariants.{BadCommand}}
-use Rattle.dsa_regs.specs.declared.Command.TheVariants.{EnableDevice, EnableWq}
+use Rattle.dsa_regs.specs.declared.{Caps.{Caps}, QueueConfig.{QueueConfig}}
+use Rattle.dsa_buffers.specs.declared.want.BufferWant.{BufferWant}
+use Rattle.dsa_book.specs.State.{State, Work}
+use Rattle.dsa_regs.specs.declared.Command.TheVariants.{DrainAll, EnableDevice, EnableWq}
 use Rattle.dsa_scenario.specs.Worked.{no_command}
 use Rattle.dsa_scenario.specs.declared.actions.Action.{Action, TheVariants.{Ask, Finish, Refuse}}
 use Rattle.dsa_scenario.specs.declared.run.Record.{Record, TheVariants.{Stepped, Refused}}
@@ -245,6 +247,43 @@ against_at now e text = fact_against now (Ok e) (answered text)
 -- engine 0 took from the first queue, and the history has room
 abbrev pub after_a_take_with_room : Running
 after_a_take_with_room = standing caps_of_three_queues 12 (records_of_two_queues ++ from_first ∷ [])
+
+-- a batch of 5 on engine 0, of which 2 are fetched
+abbrev pub work_of_a_batch : Work
+work_of_a_batch = record after_all.state.work {
+  notes = Some (record { batch = 9; count = 5; fetched = 2; failed = false; closed = false }) ∷ None ∷ [];
+}
+
+-- a second group, for which 4 read buffers are kept
+abbrev pub work_beside_a_group : Work
+work_beside_a_group = record after_all.state.work {
+  setup = record after_all.state.work.setup {
+    caps = record caps_of_three_queues { groups = 2 };
+    groups = after_all.state.work.setup.groups ++ record group_of_a_run { queues = 0; engines = 0; reserved = 4 } ∷ [];
+  };
+}
+
+-- read buffers that do not fit group 0
+abbrev pub want_of_a_row : BufferWant
+want_of_a_row = record { group = 0; asked = 4; used = 5; allowed = 6; buffers = 7; in_use = 8; kept = 9 }
+
+-- batches of up to 32 members, on a device of three queues
+abbrev pub after_all_with_batches : Running
+after_all_with_batches = record after_all {
+  state = record after_all.state {
+    work = record after_all.state.work {
+      setup = record after_all.state.work.setup { caps = record caps_of_three_queues { max_batch_shift = 5 } };
+    };
+  };
+}
+
+-- a history that had this much room at first
+abbrev pub with_room : ℕ → Running → Running
+with_room room d = record d { room = room }
+
+-- a drain is active
+abbrev pub state_with_a_drain : State
+state_with_a_drain = record after_all.state { active = Some (record { command = DrainAll; mark = 2 }) }
 
 -- an ENQCMD to the limited portal of the queue
 abbrev pub submitted_to : ℕ → Event

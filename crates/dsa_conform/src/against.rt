@@ -7,7 +7,8 @@ ghost use Rattle.dsa_conform.specs.Seen.{seen_as};
 ghost use Rattle.dsa_conform.specs.Facts.{never_words};
 ghost use Rattle.dsa_conform.specs.Against.{checked_fact, early_fact, ended_fact, event_fact, fact_against, fetch_fact, finish_fact, is_refusal, issue_fact, late_fact, list_fact, noted_fact, text_seen, unmarked};
 
-use crate::answering::{is_possible, is_refusal, kind_label, leading_word, text_seen};
+use crate::answering::{is_possible, is_refusal, kind_label, text_seen};
+use crate::answers::leading_word;
 use crate::facts::{
     add_may_start, add_never, add_next_name, add_no_failure, add_noted, add_removes_nothing,
     add_room, add_unlocked, add_waits_for_nothing,

@@ -1,21 +1,14 @@
 //! Which answers a step of a kind may have.
 
-ghost use Rattle.std.specs.Prelude.{◌≡◌, option_map};
+ghost use Rattle.std.specs.Prelude.{◌≡◌, bytes_eq, option_map};
+ghost use Rattle.std.specs.List.{list_any};
 ghost use Rattle.dsa_conform.specs.Seen.{seen_as};
-ghost use Rattle.dsa_conform.specs.Against.{is_among_answers, is_answer_to, is_possible, is_refusal, kind_label, leading_word, may_have_answer, may_report, reports_zf, text_seen};
+ghost use Rattle.dsa_conform.specs.Answers.{is_answer_to, is_numbered_answer, plain_answers};
+ghost use Rattle.dsa_conform.specs.Against.{is_possible, is_refusal, kind_label, may_have_answer, may_report, reports_zf, text_seen};
 
+use crate::answers::{following, is_cleared, is_counted, is_refusal_text, is_status, is_take};
 use crate::observed::Observed;
 use dsa_book::{Event, Kind};
-
-/// What comes before the first blank.
-pub fn leading_word(text: &str) -> &str
-    ensures { result.now ≡ leading_word text.now }
-{
-    match text.split_once(' ') {
-        Some((word, _rest)) => word,
-        None => text,
-    }
-}
 
 /// The text of the answer that was seen, where one was.
 pub fn text_seen<'v>(seen: &Observed<'v>) -> &'v str
@@ -24,10 +17,9 @@ pub fn text_seen<'v>(seen: &Observed<'v>) -> &'v str
     seen.answer.unwrap_or("")
 }
 
-// Whether the text is an answer to the event, or a word that one begins with, but for that of a
-// full history.
-fn is_among_answers(event: &Event, text: &str) -> bool
-    ensures { result ≡ is_among_answers event.now text.now }
+// Whether the text is an answer without a number, but for that of a full history.
+fn is_plain_answer(event: &Event, text: &str) -> bool
+    ensures { result ≡ list_any (bytes_eq text.now) (plain_answers event.now) }
 {
     match *event {
         Event::Submit {
@@ -44,25 +36,40 @@ fn is_among_answers(event: &Event, text: &str) -> bool
             text,
             "accepted" | "dropped not-enabled" | "dropped wrong-kind" | "dropped at-limit"
         ),
-        Event::Dispatch { .. } => matches!(text, "taken" | "idle"),
+        Event::Dispatch { .. } => text == "idle",
         Event::Fetch { .. } => matches!(text, "fetched" | "no-batch" | "all-fetched"),
-        Event::Start { .. } => matches!(
-            text,
-            "started" | "fence-wait" | "no-buffers" | "abandoned" | "nothing"
-        ),
-        Event::Finish { .. } => matches!(text, "done" | "not-ready" | "gone"),
-        Event::Issue { .. } => matches!(text, "ended" | "active" | "refused"),
+        Event::Start { .. } => {
+            matches!(text, "started" | "fence-wait" | "no-buffers" | "nothing")
+        }
+        Event::Finish { .. } => matches!(text, "not-ready" | "gone"),
+        Event::Issue { .. } => text == "active",
         Event::Poll => matches!(text, "finished" | "active" | "nothing"),
-        Event::WriteQueue { .. } => matches!(text, "written" | "refused"),
-        Event::WriteGroup { .. } => matches!(text, "written" | "refused"),
-        Event::ClearError => matches!(text, "cleared" | "nothing"),
+        Event::WriteQueue { .. } | Event::WriteGroup { .. } => text == "written",
+        Event::ClearError => text == "nothing",
+    }
+}
+
+// Whether the text is an answer with a number.
+fn is_numbered_answer(event: &Event, text: &str) -> bool
+    ensures { result ≡ is_numbered_answer event.now text.now }
+{
+    match *event {
+        Event::Submit { .. } => is_counted("accepted ", text),
+        Event::Dispatch { .. } => is_take(text),
+        Event::Fetch { .. } => is_counted("fetched ", text),
+        Event::Start { .. } => is_counted("started ", text) || is_counted("abandoned ", text),
+        Event::Finish { .. } => is_status(following(text, "done ")),
+        Event::Issue { .. } => is_counted("ended ", text) || is_refusal_text(text),
+        Event::Poll => false,
+        Event::WriteQueue { .. } | Event::WriteGroup { .. } => is_refusal_text(text),
+        Event::ClearError => is_cleared(text),
     }
 }
 
 fn is_answer_to(event: &Event, text: &str) -> bool
     ensures { result ≡ is_answer_to event.now text.now }
 {
-    text == "full" || (is_among_answers(event, text) || is_among_answers(event, leading_word(text)))
+    text == "full" || (is_plain_answer(event, text) || is_numbered_answer(event, text))
 }
 
 fn reports_zf(event: &Event) -> bool
@@ -103,7 +110,7 @@ pub fn is_possible(event: &Event, seen: &Observed<'_>) -> bool
 pub fn is_refusal(seen: &Observed<'_>) -> bool
     ensures { result ≡ is_refusal (seen_as seen.now) }
 {
-    leading_word(text_seen(seen)) == "refused" && seen.zf.is_none()
+    is_refusal_text(text_seen(seen)) && seen.zf.is_none()
 }
 
 /// The kind of the step, as documents have it.

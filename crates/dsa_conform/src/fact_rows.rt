@@ -4,15 +4,22 @@ ghost use Rattle.std.specs.Prelude.{ℕ, List, ◌≡◌, [], ◌∷◌, Some, N
 ghost use Rattle.dsa_book.specs.declared.event.Event.TheVariants as event;
 ghost use Rattle.dsa_book.specs.declared.event.Kind.TheVariants.{Enqcmd, Movdir64b};
 ghost use Rattle.dsa_book.specs.declared.event.Portal.TheVariants.{Limited, Unlimited};
-ghost use Rattle.dsa_book.specs.declared.answer.Cause.TheVariants.{AtLimit};
+ghost use Rattle.dsa_book.specs.declared.answer.DispatchAnswer.TheVariants.{Idle};
+ghost use Rattle.dsa_book.specs.declared.answer.Reply.TheVariants as reply;
+ghost use Rattle.dsa_book.specs.Machine.{intake_of};
 ghost use Rattle.dsa_desc.specs.declared.Outcome.TheVariants.{PageFault, Success};
+ghost use Rattle.dsa_engines.specs.declared.reasons.QueueReason.TheVariants.{NoBuffers};
+ghost use Rattle.dsa_queues.specs.declared.reasons.SubmitReason.TheVariants as submit;
+ghost use Rattle.dsa_regs.specs.declared.Phase.TheVariants.{On};
+ghost use Rattle.dsa_scenario.specs.declared.run.Record.TheVariants.{Refused};
 ghost use Rattle.dsa_regs.specs.declared.Command.TheVariants.{AbortAll, DrainAll, EnableDevice, EnableWq};
 ghost use Rattle.dsa_device.specs.Running.{running_at_first};
+ghost use Rattle.dsa_scenario.specs.Steps.{standing};
 ghost use Rattle.dsa_scenario.specs.Worked.{caps_of_a_run, fill, group_of_a_run, no_command, queue_of_a_run, record_ticket, smallest_caps};
 ghost use Rattle.dsa_conform.specs.Seen.{nothing_seen};
-ghost use Rattle.dsa_conform.specs.Against.{fact_against, first_text, is_possible, kind_label, row_seen, unmarked};
+ghost use Rattle.dsa_conform.specs.Against.{ended_fact, fact_against, fetch_fact, first_text, is_possible, issue_fact, kind_label, late_fact, name_of_reply, name_taken, passed_fact, queue_fact, row_of_reason, row_of_text, row_seen, taken_fact, unmarked};
 ghost use Rattle.dsa_conform.specs.Facts.{may_start_words, next_name_words, no_failure_words, noted_words, queue_count_words, removes_nothing_words, room_words, unlocked_words, waits_for_nothing_words};
-ghost use Rattle.dsa_conform.specs.Worked.{after_a_take_with_room, after_all, after_some, against_at, answered, answered_with, flagged, smallest_device_at_first, submitted_to};
+ghost use Rattle.dsa_conform.specs.Worked.{after_a_take_with_room, after_all, after_all_with_batches, after_some, against_at, answered, answered_with, caps_of_three_queues, flagged, records_of_two_queues, smallest_device_at_first, state_with_a_drain, submitted_to, want_of_a_row, with_room, work_beside_a_group, work_of_a_batch};
 
 /// Sentences of facts.
 #[tactic(auto, unfolding(dsa_scenario::specs::Worked::digits_on_literals))]
@@ -70,6 +77,9 @@ pub fn never()
         ≡ codes "no command is answered so" }
     ensures no_room { against_at (running_at_first smallest_caps 0) event.Poll (codes "nothing")
         ≡ codes "the history has room for 0 steps" }
+    ensures room_first { against_at (standing caps_of_three_queues 8 records_of_two_queues)
+        (submitted_to 0) (codes "retry not-enabled")
+        ≡ codes "the history has room for 8 steps" }
     ensures never_before_room { against_at (running_at_first smallest_caps 0) event.Poll
         (codes "idle")
         ≡ codes "no poll is answered so" }
@@ -184,7 +194,7 @@ pub fn others()
     ensures written { against_at after_all (event.WriteQueue 3 queue_of_a_run) (codes "written")
         ≡ codes "the device has 3 queues" }
     ensures unlocked { against_at smallest_device_at_first (event.WriteGroup 0 group_of_a_run)
-        (codes "refused 2 BadGroup")
+        (codes "refused 15 Locked")
         ≡ codes "the device has it, and nothing locks it" }
     ensures cleared { against_at after_all event.ClearError (codes "cleared 0 at-limit")
         ≡ codes "no error is noted" }
@@ -192,4 +202,66 @@ pub fn others()
     ensures no_part { unmarked [] ≡ [] }
     ensures first { first_text (codes "a") (codes "b") ≡ codes "a" }
     ensures second { first_text [] (codes "b") ≡ codes "b" }
+{}
+
+/// The rows of the table of a submission, by what was seen and by what decides.
+pub fn rows_of_submissions()
+    ensures texts { map row_of_text
+        (codes "retry not-enabled" ∷ codes "dropped not-enabled" ∷ codes "retry wrong-kind"
+        ∷ codes "dropped wrong-kind" ∷ codes "retry at-limit" ∷ codes "dropped at-limit"
+        ∷ codes "accepted" ∷ [])
+        ≡ 0 ∷ 0 ∷ 1 ∷ 1 ∷ 2 ∷ 2 ∷ 3 ∷ [] }
+    ensures reasons { map row_of_reason
+        (Some (submit.NotEnabled On None)
+        ∷ Some (submit.WrongKind true)
+        ∷ Some (submit.AtLimit 1 8 Limited)
+        ∷ None
+        ∷ [])
+        ≡ 0 ∷ 1 ∷ 2 ∷ 3 ∷ [] }
+    ensures decides { passed_fact (intake_of after_all.state) 0 Limited 1 1 ≡ [] }
+    ensures no_name { name_of_reply (reply.Dispatch Idle) ≡ 0 }
+    ensures refused { name_taken (Refused no_command) ≡ 0 }
+{}
+
+/// Facts against a take, where the numbers of a device differ.
+#[tactic(auto, unfolding(crate::specs::Worked::texts_on_literals))]
+pub fn further_takes()
+    ensures last_digit { against_at after_all (event.Dispatch 0) (codes "taken from 12")
+        ≡ codes "the device has 3 queues" }
+    ensures queues { against_at after_all_with_batches (event.Dispatch 0) (codes "taken from 3")
+        ≡ codes "the device has 3 queues" }
+    ensures queue_count { taken_fact after_all_with_batches.state.work 0 None None
+        ≡ codes "the device has 3 queues" }
+    ensures kept { queue_fact work_beside_a_group 0 0 None (Some (NoBuffers want_of_a_row))
+        ≡ codes "q0's front 0 needs 4 read buffers, group 0 uses 5 of 6, all groups use 8 of 7, and 9 are kept, 4 for group 1" }
+    ensures other_name { against_at after_a_take_with_room (event.Dispatch 0) (codes "idle")
+        ≡ codes "e0 may take 1 from q2" }
+{}
+
+/// Facts against other answers, where several could be meant.
+#[tactic(auto, unfolding(crate::specs::Worked::texts_on_literals))]
+pub fn further_others()
+    ensures busy { issue_fact state_with_a_drain DrainAll (codes "refused 17 Busy") ≡ [] }
+    ensures not_issued { issue_fact state_with_a_drain DrainAll (codes "active") ≡ [] }
+    ensures ended { ended_fact state_with_a_drain.active
+        ≡ codes "drain-all has ended, and no poll has reported it" }
+    ensures fetched { fetch_fact work_of_a_batch 0 (codes "fetched 7")
+        ≡ codes "the next name is 2" }
+    ensures no_batch { fetch_fact work_of_a_batch 0 (codes "no-batch")
+        ≡ codes "e0 has fetched 2 of 5 members" }
+    ensures late_poll { late_fact state_with_a_drain event.Poll nothing_seen
+        ≡ codes "drain-all has ended, and no poll has reported it" }
+    ensures late_dispatch { late_fact state_with_a_drain (event.Dispatch 0) nothing_seen ≡ [] }
+    ensures late_fetch { late_fact state_with_a_drain (event.Fetch 0 fill) nothing_seen
+        ≡ codes "e0 has fetched 0 of 0 members" }
+    ensures late_start { late_fact state_with_a_drain (event.Start 0) nothing_seen
+        ≡ codes "e0 has a member that may start" }
+    ensures late_write { late_fact state_with_a_drain (event.WriteQueue 0 queue_of_a_run)
+        nothing_seen
+        ≡ codes "the device has it, and nothing locks it" }
+    ensures without_blank { unmarked (codes ":q1 is empty") ≡ [] }
+    ensures room { against_at (with_room 12 smallest_device_at_first) event.Poll (codes "full")
+        ≡ codes "the history has room for 9 steps, and has 0" }
+    ensures no_room { against_at (with_room 7 (after_some 7)) event.Poll (codes "full")
+        ≡ codes "the history has room for 9 steps, and has 7" }
 {}

@@ -62,13 +62,8 @@ pub fn add_next_name(text: &mut String, name: u32) -> Added
 pub fn add_queue_count(text: &mut String, queues: u16) -> Added
     ensures { Adds result text.old text.new (queue_count_words queues) }
 {
-    add_count(
-        text,
-        "the device has ",
-        u64::from(queues),
-        "queue",
-        "queues",
-    )
+    let count = u64::from(queues);
+    add_count(text, "the device has ", count, "queue", "queues")
 }
 
 /// Says that the queue is not one of the engine's group.

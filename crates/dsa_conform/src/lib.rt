@@ -10,7 +10,9 @@
 mod against;
 mod alike;
 mod alone;
+pub mod answer_rows;
 mod answering;
+mod answers;
 mod as_seen;
 mod closest;
 mod difference;

@@ -14,10 +14,10 @@ use Rattle.dsa_engines.{specs.Engines.{EnginesState, IsInStep}, proofs.Keeping.{
 use Rattle.dsa_admin.specs.Admin.{Watch, IsAwaiting, is_watched, is_waited_for, is_counting}
 use Rattle.dsa_laws.specs.WellFormed.{CellsOnce}
 use Rattle.dsa_laws.proofs.Awaits.{IsOfEarlier, guarded, awaited-earlier, ended_of, dispatch-counts, finish-counts}
-use Rattle.dsa_laws.proofs.{Changes.{next-change}, Flows.{flow-change}}
-use Rattle.dsa_device.proofs.Known.{well_formed}
-use Rattle.dsa_device.proofs.Steps.{answered_by_cases, same-queues, whole_after, whole_after_queues}
-use Rattle.dsa_device.specs.Running.{Running, IsReplay, IsRunning, after_answer, watched_in, awaited_end}
+use Rattle.dsa_laws.proofs.Forgotten.{next-grows}
+use Rattle.dsa_device.proofs.Known.{shape_of}
+use Rattle.dsa_device.proofs.{Steps.{answered_by_cases}, Whole.{same-queues, rows_after, whole_after, whole_after_queues}}
+use Rattle.dsa_device.specs.Running.{Running, IsRunning, after_answer, watched_in, awaited_end}
 
 -- what a command counts was submitted before it
 watched-earlier : (active : ActiveCommand) → IsOfEarlier (is_watched active) active.mark
@@ -44,58 +44,57 @@ awaiting-kept watch name more content now le same a = record {
 }
 
 -- no step takes a name back
-next-names : (d t : Running) (e : Event) (r : Reply) → IsReplay d → after_answer d e r ≡ Some t
+pub names-after : (d now t : Running) (e : Event) (r : Reply) → d ≡ now → after_answer now e r ≡ Some t
     → d.state.work.setup.next_name ≤ t.state.work.setup.next_name
-next-names d t e r i a = answered_by_cases
-    (λ t. d.state.work.setup.next_name ≤ t.state.work.setup.next_name) d t e r a
+names-after d now t e r is a = answered_by_cases
+    (λ t. d.state.work.setup.next_name ≤ t.state.work.setup.next_name) d t e r (rw (← is) at a)
     (λ room full. omega arith)
-    (λ s room n.
-    let lawful = well_formed d i in
-    omega (arith, (flow-change d.caps d.state s lawful.shape lawful.cells (next-change d.state s e r n)).next))
-
-pub names-after : (d now t : Running) (e : Event) (r : Reply) → IsReplay d → d ≡ now → after_answer now e r ≡ Some t
-    → d.state.work.setup.next_name ≤ t.state.work.setup.next_name
-names-after d now t e r i is a = next-names d t e r i (rw (← is) at a)
+    (λ s room n. (next-grows d.state s e r n).0)
 
 -- a step of the set-up alone, which leaves all entries and numbers as they are
-pub set-up-running : (cells more : ℕ) (kept after : Kept) (engines_state : EnginesState) (watch : Watch) (d now t : Running) (e : Event)
-    (r : Reply) → IsRunning cells kept engines_state watch d → d ≡ now → after_answer now e r ≡ Some t
-    → engines_state.notes ≡ t.state.work.notes → more ≡ cells
+pub set-up-running : (cells more rows room : ℕ) (kept after : Kept) (engines_state : EnginesState) (watch : Watch)
+    (d now t : Running) (e : Event) (r : Reply) → IsRunning cells rows kept engines_state watch d → d ≡ now
+    → after_answer now e r ≡ Some t → engines_state.notes ≡ t.state.work.notes → more ≡ cells → room ≡ rows
     → (is_off t.state.work.setup.device ≡ false
     → KeepsLoads d.state.work.setup t.state.work.setup d.state.work.content t.state.work.content)
     → after.held ≡ kept.held → kept.setup ≡ d.state.work.setup → after.setup ≡ t.state.work.setup
-    → t.state.work.content ≡ d.state.work.content → IsRunning more after engines_state watch t
-set-up-running cells more kept after engines_state watch d now t e r i is a notes count keeps held before setup same = record {
-  whole = whole_after_queues cells more engines_state d now t e r i.whole is a notes count keeps;
-  counted = rw same (counted-setup kept after d.state.work.content held
-      (ap queues_of setup ∙ same-queues d now t e r i.whole.replay is a ∙ ap queues_of (sym before)) i.counted);
-  awaiting = rw same (awaiting-kept watch d.state.work.setup.next_name t.state.work.setup.next_name
-      d.state.work.content d.state.work.content (names-after d now t e r i.whole.replay is a)
-      (λ active earlier past. refl) i.awaiting);
-}
+    → t.state.work.content ≡ d.state.work.content → IsRunning more room after engines_state watch t
+set-up-running cells more rows room kept after engines_state watch d now t e r i is a notes count still keeps held before
+    setup same = record {
+      whole = whole_after_queues cells more engines_state d now t e r i.whole is a notes count keeps;
+      rows_fit = rows_after rows room d now t e r i.whole.past i.rows_fit is a still;
+      counted = rw same (counted-setup kept after d.state.work.content held
+          (ap queues_of setup ∙ same-queues d now t e r i.whole.past is a ∙ ap queues_of (sym before)) i.counted);
+      awaiting = rw same (awaiting-kept watch d.state.work.setup.next_name t.state.work.setup.next_name
+          d.state.work.content d.state.work.content (names-after d now t e r is a)
+          (λ active earlier past. refl) i.awaiting);
+    }
   where
     queues_of : Setup → ℕ
     queues_of setup = setup.caps.queues
 
 -- a dispatch, which leaves as many that a command counts
-pub dispatch-running : (cells more : ℕ) (kept : Kept) (engines_state after : EnginesState) (watch : Watch) (d now t : Running)
-    (engine : ℕ) (answer : DispatchAnswer) → IsRunning cells kept engines_state watch d → d ≡ now
-    → after_answer now (event.Dispatch engine) (reply.Dispatch answer) ≡ Some t
+pub dispatch-running : (cells more rows room : ℕ) (kept : Kept) (engines_state after : EnginesState) (watch : Watch)
+    (d now t : Running) (engine : ℕ) (answer : DispatchAnswer) → IsRunning cells rows kept engines_state watch d → d ≡ now
+    → after_answer now (event.Dispatch engine) (reply.Dispatch answer) ≡ Some t → room ≡ rows
     → may_leave d.state.work engine (choice_of (reply.Dispatch answer)) ≡ true
     → dispatch d.state.work engine (choice_of (reply.Dispatch answer)) ≡ (answer, t.state.work)
     → IsInStep t.state.work.setup after more t.state.work.content → IsCounted kept t.state.work.content
-    → IsRunning more kept after watch t
-dispatch-running cells more kept engines_state after watch d now t engine answer i is a may step in_step counted = record {
-  whole = whole_after cells more engines_state after d now t (event.Dispatch engine) (reply.Dispatch answer) i.whole is a
-      in_step;
-  counted = counted;
-  awaiting = awaiting-kept watch d.state.work.setup.next_name t.state.work.setup.next_name
-      d.state.work.content t.state.work.content
-      (names-after d now t (event.Dispatch engine) (reply.Dispatch answer) i.whole.replay is a)
-      (λ active earlier past. dispatch-counts (is_watched active) active.mark earlier d.caps d.state.work engine
-      (choice_of (reply.Dispatch answer)) answer t.state.work (well_formed d i.whole.replay).shape may step)
-      i.awaiting;
-}
+    → IsRunning more room kept after watch t
+dispatch-running cells more rows room kept engines_state after watch d now t engine answer i is a still may step in_step
+    counted = record {
+      whole = whole_after cells more engines_state after d now t (event.Dispatch engine) (reply.Dispatch answer) i.whole is a
+          in_step;
+      rows_fit = rows_after rows room d now t (event.Dispatch engine) (reply.Dispatch answer) i.whole.past i.rows_fit is a
+          still;
+      counted = counted;
+      awaiting = awaiting-kept watch d.state.work.setup.next_name t.state.work.setup.next_name
+          d.state.work.content t.state.work.content
+          (names-after d now t (event.Dispatch engine) (reply.Dispatch answer) is a)
+          (λ active earlier past. dispatch-counts (is_watched active) active.mark earlier d.caps d.state.work engine
+          (choice_of (reply.Dispatch answer)) answer t.state.work (shape_of d i.whole.past) may step)
+          i.awaiting;
+    }
 
 -- ---- the end of an entry
 

@@ -1,11 +1,11 @@
 -- Whether an entry is held, as it is found by its cell, and how many are awaited at most.
-use Rattle.std.proofs.Common.{◌≡◌, ℕ, ◌+◌, ◌≤◌, ◌==◌, Bool, true, false, ◌||◌, List, [], ◌∷◌, ◌++◌}
-use Rattle.std.proofs.Common.{Option, Some, None, refl, sym, ◌∙◌, ap, arith, inl, inr}
+use Rattle.std.proofs.Common.{◌≡◌, ℕ, ◌≤◌, ◌==◌, Bool, false, ◌||◌, List, [], ◌∷◌}
+use Rattle.std.proofs.Common.{Option, Some, None, refl, ◌∙◌, ap, arith, inl, inr}
 use Rattle.std.proofs.lemmas.{Bool.{cases_Bool, cases_eq}, List.{Folds.{list_any-append}, Sums.{count_by-le-length}}}
 use Rattle.std.specs.List.{find, list_any}
 use Rattle.std.specs.Option.{option_map}
 use Rattle.dsa_base.specs.Rows.{passes}
-use Rattle.dsa_store.specs.declared.entry.{Cell.{Cell}, Entry.{Entry}}
+use Rattle.dsa_store.specs.declared.entry.{Entry.{Entry}}
 use Rattle.dsa_store.specs.Content.{HeldEntry, Content, is_cell, place_count, use_count, entry_of, all_held}
 use Rattle.dsa_store.specs.Content.{held_count, count_where}
 use Rattle.dsa_store.proofs.{Places.{count-cons, list_any-absent, list_any-present}, Lists.{uses-cons}}

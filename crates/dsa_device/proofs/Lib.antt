@@ -1,5 +1,7 @@
 pub mod Known
 pub mod Steps
+pub mod Anew
+pub mod Whole
 pub mod Awaiting
 pub mod InStep
 pub mod Opening

@@ -1,5 +1,5 @@
 -- A device as it is made.
-use Rattle.std.proofs.Common.{◌≡◌, ℕ, ◌^◌, ◌≤◌, IsTrue, List, [], length, replicate, None, refl, ap, ◌∙◌}
+use Rattle.std.proofs.Common.{◌≡◌, ℕ, ◌^◌, ◌≤◌, IsTrue, List, [], length, replicate, None, ap, ◌∙◌}
 use Rattle.std.proofs.Common.{arith}
 use Rattle.std.proofs.lemmas.Bool.{eqb-true, ltb-false, and_parts, not-false}
 use Rattle.dsa_base.{specs.Rows.{first_row}, proofs.Tables.{no-row}}
@@ -8,7 +8,8 @@ use Rattle.dsa_store.{specs.Content.{HeldEntry, Content, held_count}, proofs.Lis
 use Rattle.dsa_book.specs.State.{opening_setup}
 use Rattle.dsa_queues.specs.Queues.{IsStoreFor}
 use Rattle.dsa_engines.specs.Engines.{EnginesState, IsInStep}
-use Rattle.dsa_device.specs.Running.{Running, running_at_first, IsWholeDevice}
+use Rattle.dsa_device.specs.Running.{Running, running_at_first, HasRows, IsWholeDevice}
+use Rattle.dsa_device.proofs.Anew.{past-opening}
 use Rattle.dsa_device.specs.Made.{opening_table, make_table, make_fault}
 
 -- what stands where no cause does
@@ -51,12 +52,12 @@ pub made-whole : (caps : Caps) (capacity cells : ℕ) (engines_state : EnginesSt
     → IsInStep (opening_setup caps) engines_state count lists)
     → IsWholeDevice cells engines_state d
 made-whole caps capacity cells engines_state content d clear is in_step = rw is (record {
-  replay = record {
-    caps = clear.caps;
-    bounded = clear.capacity;
-    within = omega arith;
-    legal = refl;
-    replayed = refl;
-  };
+  past = past-opening caps capacity clear.caps clear.capacity;
   in_step = rw clear.content at (in_step cells content clear.store clear.none);
 })
+
+-- and there is a row for each step
+pub made-rows : (caps : Caps) (capacity cells rows : ℕ) (content : Content) (d : Running)
+    → IsClear caps capacity cells content → d ≡ running_at_first caps capacity → rows ≡ capacity → HasRows rows d
+made-rows caps capacity cells rows content d clear is same =
+    rw is (omega (arith, same, rw clear.content at clear.none))

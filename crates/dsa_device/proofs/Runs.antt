@@ -1,11 +1,11 @@
 -- A run of a device, a call at a time.
-use Rattle.std.proofs.Common.{◌≡◌, ℕ, Bool, true, false, cond, List, [], ◌∷◌, ◌++◌, Some, refl, sym, ap, ◌∙◌}
-use Rattle.std.proofs.Common.{append_assoc}
+use Rattle.std.proofs.Common.{◌≡◌, ℕ, Bool, true, false, cond, List, [], ◌∷◌, ◌++◌, Option, Some, None}
+use Rattle.std.proofs.Common.{append_assoc, option_and_then, refl, sym, ap, ◌∙◌}
 use Rattle.std.proofs.lemmas.{Bool.{and_parts, and_from}, List.{append-nil, map-append, Elements.{filter-append}}}
 use Rattle.dsa_regs.specs.declared.Caps.{Caps}
 use Rattle.dsa_book.specs.declared.{answer.Reply.{Reply}, event.{Event.{Event}, Step.{Step}}}
 use Rattle.dsa_book.specs.Machine.{is_stored, stored_steps, history_after, may_follow, is_run_after}
-use Rattle.dsa_device.specs.{Running.{Running, after_answer, IsReplay}, Runs.{IsRunOf}}
+use Rattle.dsa_device.specs.{Running.{Running, after_answer, after_answers, IsReplay}, Runs.{IsAnswered, IsRunOf}}
 use Rattle.dsa_device.proofs.Steps.{answered_by_cases, answered-replay, grows}
 
 -- a run and one step more
@@ -53,4 +53,31 @@ IsRunOf-push d a t events more old new newer e r replay run n one is =
       same_capacity = g.capacity ∙ run.same_capacity;
       history = g.history ∙ rw run.history (kept d.history run.steps x);
       replayed = rw (← run.same_caps, ← g.caps) (answered-replay a t e r replay n).replayed;
+    }
+
+-- answers and one more
+answered-more : (d a t : Running) (steps : List Step) (x : Step) → after_answers d steps ≡ Some a
+    → after_answer a x.event x.reply ≡ Some t → after_answers d (steps ++ x ∷ []) ≡ Some t
+answered-more d a t [] x first last =
+    let same : d ≡ a = cc in rw (same, last) refl
+answered-more d a t (y ∷ ys) x first last =
+    go (after_answer d y.event y.reply) (λ b some. answered-more b a t ys x some last) first
+  where
+    go : (o : Option Running) → ((b : Running) → after_answers b ys ≡ Some a → after_answers b (ys ++ x ∷ []) ≡ Some t)
+        → option_and_then (λ t. after_answers t ys) o ≡ Some a
+        → option_and_then (λ t. after_answers t (ys ++ x ∷ [])) o ≡ Some t
+    go None more none = absurd cc
+    go (Some b) more some = more b some
+
+-- whatever the device's past
+pub IsAnswered-push : (d a t : Running) (events more : List Event) (old new newer : List Step) (e : Event) (r : Reply)
+    → IsAnswered d events old new a → after_answer a e r ≡ Some t → more ≡ events ++ e ∷ []
+    → newer ≡ new ++ record { event = e; reply = r } ∷ [] → IsAnswered d more old newer t
+IsAnswered-push d a t events more old new newer e r ran n one is =
+    let x : Step = record { event = e; reply = r } in
+    record {
+      steps = ran.steps ++ x ∷ [];
+      added = is ∙ ap (λ (l : List Step). l ++ x ∷ []) ran.added ∙ append_assoc old ran.steps (x ∷ []);
+      events_are = map-append (λ (x : Step). x.event) ran.steps (x ∷ []) ∙ rw (one, ran.events_are) refl;
+      answered = answered-more d a t ran.steps x ran.answered n;
     }

@@ -1,5 +1,5 @@
 -- What is read of a device.
-use Rattle.std.specs.Prelude.{ℕ, Bool, List, Option, Some, None, slice_get}
+use Rattle.std.specs.Prelude.{ℕ, Bool, List, Option, slice_get}
 use Rattle.std.specs.{List.{list_any}, Option.{option_map, option_and_then}}
 use Rattle.dsa_store.specs.Content.{HeldEntry, Content, all_held, count_where}
 use Rattle.dsa_book.specs.{declared.answer.Ticket.{Ticket}, State.{State, is_ticket}}

@@ -1,6 +1,6 @@
 //! A device: how it is made, and its steps.
 
-ghost use Rattle.std.specs.Prelude.{◌≡◌, ◌≢◌, ◌≤◌, ◌-◌, IsTrue, false, None, Some, length, IfOk, IfErr, IfSome, IfNone};
+ghost use Rattle.std.specs.Prelude.{◌≡◌, ◌≢◌, ◌≤◌, ◌-◌, IsTrue, false, None, Some, length, IfOk, IfErr, IfSome, IfNone, OnOk, OnErr};
 ghost use Rattle.dsa_desc.specs.Descriptor.{read};
 ghost use Rattle.dsa_regs.specs.Caps.{check_caps};
 ghost use Rattle.dsa_book.specs.declared.event.Event.TheVariants as event;
@@ -10,7 +10,7 @@ ghost use Rattle.dsa_book.specs.Choice.{choice_of, from_queue};
 ghost use Rattle.dsa_book.specs.Work.{qualifies};
 ghost use Rattle.dsa_base.specs.Rows.{first_row};
 ghost use Rattle.dsa_device.specs.Made.{is_store_of, opening_table, make_fault, fault_or_memory};
-ghost use Rattle.dsa_device.specs.Running.{running_at_first, after_answer, watched_in, awaited_end};
+ghost use Rattle.dsa_device.specs.Running.{running_at_first, running_anew, after_answer, watched_in, awaited_end};
 
 mod engine_reasons;
 mod entries;
@@ -23,14 +23,14 @@ use crate::MakeFault;
 use dsa_admin::Admin;
 use dsa_book::{
     Book, ClearAnswer, DispatchAnswer, Event, FetchAnswer, FinishAnswer, IssueAnswer, Kind,
-    PollAnswer, Portal, Reply, StartAnswer, SubmitAnswer, Ticket, WriteAnswer,
+    PastFates, PollAnswer, Portal, Reply, StartAnswer, SubmitAnswer, Ticket, WriteAnswer,
 };
 use dsa_desc::{Descriptor, Outcome};
 use dsa_engines::Engines;
 use dsa_queues::Queues;
 use dsa_regs::{Caps, Command, GroupConfig, QueueConfig, cell_count, check_caps, list_count};
 use dsa_store::{Entry, EntryStore};
-use std::alloc::Global;
+use std::alloc::{AllocError, Global};
 use std::marker::Model;
 
 /// The most steps that a history may have room for (profile).
@@ -41,7 +41,7 @@ const MAX_CAPACITY: u64 = 1_048_576;
 /// It numbers its queues, groups and engines from 0. Each step may be called with any numbers. A
 /// step whose reply is kept stands in the history, and takes one of the places that [`Device::new`]
 /// took memory for; any other changes nothing. Once all places are taken every step is answered
-/// `Full`. No step takes memory.
+/// `Full`, until the history begins anew. No step takes memory.
 #[derive(Drop)]
 pub struct Device<S: EntryStore> {
     caps: Caps,
@@ -60,7 +60,7 @@ impl<S: EntryStore> Model for Device<S> {
     ghost view = { λ d. running_of d.caps d.queues.setup d.engines (S.content d.store)
         d.admin.active d.book };
 
-    ghost invariant = { λ d. IsRunning (S.cells d.store) d.queues d.engines d.admin
+    ghost invariant = { λ d. IsRunning (S.cells d.store) d.book.row_room d.queues d.engines d.admin
         (running_of d.caps d.queues.setup d.engines (S.content d.store) d.admin.active
         d.book) };
 }
@@ -150,6 +150,19 @@ impl<S: EntryStore> Device<S> {
             admin: Admin::new(),
             book,
         })
+    }
+
+    /// Begins the history anew at the present state: no step is stored then, and there is room for
+    /// as many as the device took memory for, or as names are left. What is configured, held and
+    /// active stays, and names go on. Takes memory for the fates to come beside those that are
+    /// kept. Where that is refused, nothing changes.
+    pub fn begin_anew(&mut self, past: PastFates) -> Result<(), AllocError>
+        ensures ok { OnOk result (self.new ≡ running_anew self.old past) }
+        ensures err { OnErr result (self.new ≡ self.old) }
+    {
+        let names = u32::MAX - self.queues.next_name();
+        let held = self.store.cells() - self.store.free();
+        self.book.begin_anew(past, names as usize, held as usize)
     }
 
     // A submission of a descriptor that is parsed.

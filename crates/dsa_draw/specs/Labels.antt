@@ -53,7 +53,7 @@ is_fitting wide bar label = nat_le (length label + sign_letters bar.end) (letter
 
 -- a label, where so much room is enough for it, and else what follows
 abbrev pub fitting_label : ℕ → Bar → List ℕ → Option (List ℕ) → Option (List ℕ)
-fitting_label wide bar label else = cond (is_fitting wide bar label) (Some label) else
+fitting_label wide bar label shorter = cond (is_fitting wide bar label) (Some label) shorter
 
 -- the longest label with this own name that there is room for
 abbrev pub longest_label : ℕ → Bar → Option (List ℕ) → Option (List ℕ)

@@ -254,8 +254,10 @@ device_of_a_drawing =
     let work = (opening caps_of_a_drawing).work in
     record {
       caps = caps_of_a_drawing;
+      room = 9;
       capacity = 9;
       history = [];
+      anew = false;
       state = record {
         work = record work {
           setup = record work.setup {

@@ -337,7 +337,7 @@ impl Engines {
         requires counted { IsCounted queues.old (S.content store.old) }
         requires placed { IsInPlace queues.old.setup (S.content store.old) }
         requires order { QueuesRise queues.old.setup (S.content store.old) }
-        requires room { length book.old.fates < book.old.capacity }
+        requires room { length book.old.fates < book.old.row_room }
         ensures step { finish (work queues.old.setup self.old (S.content store.old) book.old.fates)
             engine ticket outcome
             ≡ (result, work queues.new.setup self.new (S.content store.new) book.new.fates) }

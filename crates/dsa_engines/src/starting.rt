@@ -80,7 +80,7 @@ fn abandon_all<S: EntryStore>(queues: &mut Queues, store: &S, book: &mut Book, l
     requires list { list.0 < length (S.content store.now) }
     requires counted { IsCounted queues.old (S.content store.now) }
     requires room { length book.old.fates + length (chain (S.content store.now) list.0)
-        ≤ book.old.capacity }
+        ≤ book.old.row_room }
     ensures counted { IsCounted queues.new (after_give_back (S.content store.now) list.0) }
     ensures setup { queues.new.setup ≡ queues.old.setup }
     ensures rows { book.new
@@ -340,7 +340,7 @@ impl Engines {
         requires counted { IsCounted queues.old (S.content store.old) }
         requires room { length book.old.fates
             + length (chain (S.content store.old) (member_list queues.old.setup engine))
-            ≤ book.old.capacity }
+            ≤ book.old.row_room }
         ensures setup { queues.new.setup ≡ queues.old.setup }
         ensures counted { IsCounted queues.new (S.content store.new) }
         ensures left { result
@@ -389,7 +389,7 @@ impl Engines {
             (members (lists_alone queues.old.setup (S.content store.old)) engine) }
         requires room { length book.old.fates
             + length (members (lists_alone queues.old.setup (S.content store.old)) engine)
-            ≤ book.old.capacity }
+            ≤ book.old.row_room }
         ensures step { start
             (work queues.old.setup self.old (S.content store.old) book.old.fates) engine
             ≡ (result, work queues.new.setup self.new (S.content store.new) book.new.fates) }

@@ -5,7 +5,7 @@ use Rattle.std.specs.Prelude.{ℕ, Bool, true, false, ◌==◌, if◌then◌else
 use Rattle.std.specs.Prelude.{codes, decimal}
 use Rattle.std.specs.Fmt.{digits}
 use Rattle.dsa_desc.specs.declared.{Descriptor.{Descriptor}, Outcome.{Outcome, TheVariants.{Success, PageFault}}}
-use Rattle.dsa_desc.specs.Descriptor.{is_batch, is_transfer, is_fenced, operation_row}
+use Rattle.dsa_desc.specs.Descriptor.{is_batch, is_transfer, is_fenced, operation_row, pasid_of}
 use Rattle.dsa_regs.specs.declared.{Command.{Command}, layout.ListUse.{ListUse}}
 use Rattle.dsa_regs.specs.declared.Phase.{Phase, TheVariants.{Off, On, Stopping}}
 use Rattle.dsa_regs.specs.declared.Scope.{Scope, TheVariants.{Device, Queue, Queues, Pasid}}
@@ -86,9 +86,9 @@ abbrev pub portal_label : Portal → List ℕ
 portal_label Limited = codes "limited"
 portal_label Unlimited = codes "unlimited"
 
--- the instruction, with the PASID that ENQCMD brings
+-- the instruction, with the PASID that ENQCMD brings: of the number that the step has, 20 bits
 abbrev pub instruction_text : Kind → List ℕ
-instruction_text (Enqcmd pasid) = codes "enqcmd pasid " ++ decimal pasid
+instruction_text (Enqcmd pasid) = codes "enqcmd pasid " ++ decimal (pasid_of pasid)
 instruction_text Movdir64b = codes "movdir"
 
 abbrev pub outcome_label : Outcome → List ℕ

@@ -12,6 +12,9 @@ use crate::numbers::add_number;
 use dsa_book::{Event, Kind, Portal};
 use dsa_desc::{Descriptor, Outcome};
 
+/// A PASID has 20 bits (Intel DSA specification, descriptor format).
+const PASIDS: u32 = 1 << 20;
+
 /// The word of a portal.
 pub fn portal_label(portal: Portal) -> &'static str
     ensures { result.now ≡ portal_label portal }
@@ -35,7 +38,7 @@ fn add_kind(text: &mut String, kind: Kind) -> Added
     ensures { Adds result text.old text.new (instruction_text kind) }
 {
     match kind {
-        Kind::Enqcmd { pasid } => add_number(text, "enqcmd pasid ", pasid),
+        Kind::Enqcmd { pasid } => add_number(text, "enqcmd pasid ", pasid % PASIDS),
         Kind::Movdir64b => text.push_str("movdir"),
     }
 }

@@ -82,6 +82,8 @@ pub fn commands()
 pub fn submissions()
     ensures enqcmd { event_text (Submit 3 0 Limited (Enqcmd 5) page_move)
         ≡ codes "submit q0 limited enqcmd pasid 5 client 3 move 4096 bytes" }
+    ensures wide_pasid { event_text (Submit 3 0 Limited (Enqcmd 0xfff00005) page_move)
+        ≡ codes "submit q0 limited enqcmd pasid 5 client 3 move 4096 bytes" }
     ensures movdir { event_text (Submit 0 12 Unlimited Movdir64b (desc 0 2 0))
         ≡ codes "submit q12 unlimited movdir client 0 drain" }
 {}

@@ -12,9 +12,8 @@ use Rattle.serde_json.specs.View.{items_of}
 use Rattle.serde_json.proofs.Views.{get_member-put, get_member-put_other}
 use Rattle.dsa_regs.specs.{declared.Caps.{Caps}, Caps.{check_caps}}
 use Rattle.dsa_scenario.specs.declared.actions.Action.{Action}
-use Rattle.dsa_scenario.specs.declared.faults.ScenarioFault.{ScenarioFault, TheVariants.{Read, TooLong, NotJson}}
+use Rattle.dsa_scenario.specs.declared.faults.ScenarioFault.{ScenarioFault, TheVariants.{NotJson, OutOfMemory}}
 use Rattle.dsa_scenario.specs.declared.faults.ScenarioFault.TheVariants.{BadDocument, BadStep, BadCaps, BadCapacity}
-use Rattle.dsa_scenario.specs.declared.faults.ScenarioFault.TheVariants.{Differs, Write, OutOfMemory}
 use Rattle.dsa_scenario.specs.{Actions.{action_of, caps_of}, Fields.{below_limit, whole_of}}
 use Rattle.dsa_scenario.specs.Document.{head_of, list_of_items, HasHead, IsBadAt, IsDocument, IsFaultOf, IsJson, IsOpenable}
 use Rattle.dsa_expand.specs.{Steps.{Pair, is_friendly, object_with, put_all}, Values.{pairs_of}}
@@ -83,27 +82,28 @@ module _ (d : Data) (caps : Caps) (capacity : ℕ) (items : Items) (head : head_
       (key_after (codes "capacity") caps_pairs capacity_pairs
       (has_pair (codes "capacity") (get (codes "capacity") d) v there))
 
-  head_strict : head_of (strict_document (head_pairs d) strict) ≡ Some (caps, capacity, items_of (map object_with strict))
+  head_strict : head_of (strict_document (head_pairs d) strict)
+      ≡ Some (caps, capacity, items_of (map object_with strict))
   head_strict =
       let e = strict_document (head_pairs d) strict in
       let list = items_of (map object_with strict) in
       let said = head_parts (option_and_then caps_of (get (codes "caps") d)) (whole_of (2 ^ 64) (codes "capacity") d)
       (option_and_then as_array (get (codes "steps") d)) (caps, capacity, items) head in
       let caps_at = second caps_of (get (codes "caps") d) caps said.0 in
-      let below = second (below_limit (2 ^ 64)) (option_and_then as_u64 (option_and_then as_number (get (codes "capacity") d)))
-      capacity said.1 in
+      let below = second (below_limit (2 ^ 64))
+      (option_and_then as_u64 (option_and_then as_number (get (codes "capacity") d))) capacity said.1 in
       let whole = second as_u64 (option_and_then as_number (get (codes "capacity") d)) below.0 below.1 in
       let capacity_at = second as_number (get (codes "capacity") d) whole.0 whole.1 in
       let caps_same = part_same (codes "caps") caps_at.0 refl refl (has_caps caps_at.0 caps_at.1) caps_at.1 in
-      let capacity_same = part_same (codes "capacity") capacity_at.0 refl refl (has_capacity capacity_at.0 capacity_at.1)
-      capacity_at.1 in
+      let capacity_same = part_same (codes "capacity") capacity_at.0 refl refl
+      (has_capacity capacity_at.0 capacity_at.1) capacity_at.1 in
       let steps_there : get (codes "steps") e ≡ Some (array list) =
       get_member-put (codes "steps") (array list) (put_all (head_pairs d) no_members) in
       joined (option_and_then caps_of (get (codes "caps") e)) (whole_of (2 ^ 64) (codes "capacity") e)
       (option_and_then as_array (get (codes "steps") e)) (caps, capacity, list)
       (ap (λ o. option_and_then caps_of o) caps_same ∙ said.0)
-      (ap (λ o. option_and_then (below_limit (2 ^ 64)) (option_and_then as_u64 (option_and_then as_number o))) capacity_same
-      ∙ said.1)
+      (ap (λ o. option_and_then (below_limit (2 ^ 64)) (option_and_then as_u64 (option_and_then as_number o)))
+      capacity_same ∙ said.1)
       (ap (λ o. option_and_then as_array o) steps_there)
 
 -- ---- the document
@@ -156,16 +156,15 @@ none_bad : (o : Option Action) → option_map Some o ≡ Some None → ⊥
 none_bad None e = cc
 none_bad (Some a) e = cc
 
-all_good : (steps : List Data) (actions : List Action) (i : ℕ) → map action_of steps ≡ map Some actions → IsBadAt steps i
-    → ⊥
+all_good : (steps : List Data) (actions : List Action) (i : ℕ) → map action_of steps ≡ map Some actions
+    → IsBadAt steps i → ⊥
 all_good steps actions i asked bad =
     none_bad (slice_get actions i)
-    (sym (slice_get-map Some actions i) ∙ ap (λ l. slice_get l i) (sym asked) ∙ slice_get-map action_of steps i ∙ bad.here)
+    (sym (slice_get-map Some actions i) ∙ ap (λ l. slice_get l i) (sym asked) ∙ slice_get-map action_of steps i
+    ∙ bad.here)
 
 no_fault : (text : List ℕ) (caps : Caps) (capacity : ℕ) (actions : List Action)
     → IsDocument text caps capacity actions → IsOpenable caps capacity → (e : ScenarioFault) → IsFaultOf text e → ⊥
-no_fault text caps capacity actions h opening Read f = f
-no_fault text caps capacity actions h opening TooLong f = f
 no_fault text caps capacity actions h opening NotJson f =
     none_some (read text) h.head.document (f h.head.json.utf8) h.head.json.value
 no_fault text caps capacity actions h opening BadDocument f =
@@ -180,9 +179,7 @@ no_fault text caps capacity actions h opening BadCaps f =
 no_fault text caps capacity actions h opening BadCapacity f =
     let same = same_head text f.caps caps f.capacity capacity f.steps h.steps f.head h.head in
     omega (arith, same.1, f.bad.1.1, opening.small)
-no_fault text caps capacity actions h opening (Differs i) f = f
-no_fault text caps capacity actions h opening Write f = f
-no_fault text caps capacity actions h opening OutOfMemory f = f
+no_fault text caps capacity actions h opening _ f = f
 
 without_fault : (bytes text : List ℕ) (told : Option ScenarioFault) → IsExpansion bytes told text → told ≡ None
     → (e : ScenarioFault) → IsFaultOf text e → ⊥

@@ -9,7 +9,7 @@ use Rattle.json.specs.Json as json
 use Rattle.json.specs.Tree as tree
 use Rattle.json.specs.Tree.{json_tokens, items_tokens, members_tokens, HasNumbers, MembersHaveNumbers, ItemsHaveNumbers}
 use Rattle.json.proofs.{Printed.Trees.{value-json_tokens}, Numbered.{ArePrintableOrBad-tokens, value-HasNumbers}}
-use Rattle.serde_json.specs.Data.{Data, null, boolean, number, string, array, object, Items, no_items, item, Members}
+use Rattle.serde_json.specs.Data.{Data, array, object, Items, no_items, item, Members}
 use Rattle.serde_json.specs.Data.{no_members, member, put, depth, items_depth, members_depth}
 use Rattle.serde_json.specs.Read.{read, of_json, of_items, of_members, max_depth}
 use Rattle.serde_json.specs.Written.{outline, items_outline, members_outline, blank, blank_items, blank_members}
@@ -23,12 +23,9 @@ use Rattle.dsa_expand.proofs.Spaced.{spaced-token, spaced-json, spaced-close_obj
 
 mutual
   depth-blank : (j : json.Json) → tree.depth (blank j) ≡ tree.depth j
-  depth-blank json.null = refl
-  depth-blank (json.boolean b) = refl
-  depth-blank (json.number s) = refl
-  depth-blank (json.string s) = refl
   depth-blank (json.array js) = ap (λ n. suc n) (depth-blank_items js)
   depth-blank (json.object ms) = ap (λ n. suc n) (depth-blank_members ms)
+  depth-blank _ = refl
 
   depth-blank_items : (js : json.Items) → tree.items_depth (blank_items js) ≡ tree.items_depth js
   depth-blank_items json.no_items = refl
@@ -40,12 +37,9 @@ mutual
 
 mutual
   depth-outline : (d : Data) → tree.depth (outline d) ≡ depth d
-  depth-outline null = refl
-  depth-outline (boolean b) = refl
-  depth-outline (number n) = refl
-  depth-outline (string s) = refl
   depth-outline (array ds) = ap (λ n. suc n) (depth-outline_items ds)
   depth-outline (object ms) = ap (λ n. suc n) (depth-outline_members ms)
+  depth-outline _ = refl
 
   depth-outline_items : (ds : Items) → tree.items_depth (items_outline ds) ≡ items_depth ds
   depth-outline_items no_items = refl
@@ -117,26 +111,23 @@ before-tokens (p ∷ ps) ms =
 pub before-read : (n : ℕ) (ps : List Pair) (js : Jsons) (ms : json.Members) (found : Members) → AreJsonsOf n ps js
     → of_members (before js ms) found ≡ of_members ms (put_all ps found)
 before-read n [] [] ms found h = refl
-before-read n [] (q ∷ qs) ms found h = absurd h
-before-read n (p ∷ ps) [] ms found h = absurd h
 before-read n (p ∷ ps) (q ∷ qs) ms found h =
     ap (λ o. option_and_then (λ d. of_members (before qs ms) (put q.0 d found)) o) h.1.reads
     ∙ ap (λ k. of_members (before qs ms) (put k p.1 found)) h.0
     ∙ before-read n ps qs ms (put p.0 p.1 found) h.2
+before-read n _ _ ms found h = absurd h
 
 pub before-numbers : (n : ℕ) (ps : List Pair) (js : Jsons) (ms : json.Members) → AreJsonsOf n ps js
     → MembersHaveNumbers ms → MembersHaveNumbers (before js ms)
 before-numbers n [] [] ms h k = k
-before-numbers n [] (q ∷ qs) ms h k = absurd h
-before-numbers n (p ∷ ps) [] ms h k = absurd h
 before-numbers n (p ∷ ps) (q ∷ qs) ms h k = (h.1.numbers, before-numbers n ps qs ms h.2 k)
+before-numbers n _ _ ms h k = absurd h
 
 pub before-shallow : (n : ℕ) (ps : List Pair) (js : Jsons) (ms : json.Members) → AreJsonsOf n ps js
     → tree.members_depth ms ≤ n → tree.members_depth (before js ms) ≤ n
 before-shallow n [] [] ms h k = k
-before-shallow n [] (q ∷ qs) ms h k = absurd h
-before-shallow n (p ∷ ps) [] ms h k = absurd h
 before-shallow n (p ∷ ps) (q ∷ qs) ms h k = omega (arith, h.1.shallow, before-shallow n ps qs ms h.2 k)
+before-shallow n _ _ ms h k = absurd h
 
 -- a member's text, in parts
 parted : (s gap q v r : List ℕ)
@@ -243,25 +234,22 @@ items-tokens (js ∷ jss) =
 pub items-read : (n : ℕ) (pss : List (List Pair)) (jss : List Jsons) → AreAllJsonsOf n pss jss
     → of_items (items_json jss) ≡ Some (items_of (map object_with pss))
 items-read n [] [] h = refl
-items-read n [] (q ∷ qs) h = absurd h
-items-read n (p ∷ ps) [] h = absurd h
 items-read n (p ∷ ps) (q ∷ qs) h =
     ap (λ o. option_and_then (λ d. option_map (item d) (of_items (items_json qs))) o) (object-of n p q h.0).reads
     ∙ ap (λ o. option_map (item (object_with p)) o) (items-read n ps qs h.1)
+items-read n _ _ h = absurd h
 
 pub items-numbers : (n : ℕ) (pss : List (List Pair)) (jss : List Jsons) → AreAllJsonsOf n pss jss
     → ItemsHaveNumbers (items_json jss)
 items-numbers n [] [] h = tt
-items-numbers n [] (q ∷ qs) h = absurd h
-items-numbers n (p ∷ ps) [] h = absurd h
 items-numbers n (p ∷ ps) (q ∷ qs) h = ((object-of n p q h.0).numbers, items-numbers n ps qs h.1)
+items-numbers n _ _ h = absurd h
 
 pub items-shallow : (n : ℕ) (pss : List (List Pair)) (jss : List Jsons) → AreAllJsonsOf n pss jss
     → tree.items_depth (items_json jss) ≤ suc n
 items-shallow n [] [] h = omega arith
-items-shallow n [] (q ∷ qs) h = absurd h
-items-shallow n (p ∷ ps) [] h = absurd h
 items-shallow n (p ∷ ps) (q ∷ qs) h = omega (arith, (object-of n p q h.0).shallow, items-shallow n ps qs h.1)
+items-shallow n _ _ h = absurd h
 
 pub spaced-objects : (n : ℕ) (c : Bool) (gap gap' first next : List ℕ) (pss : List (List Pair)) (text : List ℕ)
     → Opens c gap first → Opens true gap' next → n ≤ 127 → AreAllShallow n pss

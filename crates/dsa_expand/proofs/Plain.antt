@@ -5,7 +5,7 @@ use Rattle.std.proofs.Common.{codes, option_and_then, map, inl}
 use Rattle.std.specs.{Prelude.{bytes_eq, find, if◌then◌else◌, is_some, not}, List.{list_any}}
 use Rattle.std.proofs.lemmas.Slice.Eq.{bytes_eq-Decides}
 use Rattle.json.proofs.Found.{Some_inj}
-use Rattle.serde_json.specs.Data.{Data, null, boolean, number, string, array, object}
+use Rattle.serde_json.specs.Data.{Data, string, array, object}
 use Rattle.serde_json.specs.Find.{as_array, as_object, as_str, get}
 use Rattle.dsa_scenario.specs.{declared.actions.StepKind.{StepKind}, declared.run.Record.{Record}, Fields.{Row, text_of}}
 use Rattle.dsa_scenario.specs.Actions.{action_of, kind_named, kind_of, kind_text, kinds, rows_of_kind}
@@ -52,28 +52,16 @@ row_later key row rows h = either (bytes_eq row.0 key)
 -- ---- what stands at keys
 
 descriptor_plain : (d : Data) → is_some (as_object d) ≡ false → strict_descriptor d ≡ Some d
-descriptor_plain null e = refl
-descriptor_plain (boolean b) e = refl
-descriptor_plain (number n) e = refl
-descriptor_plain (string s) e = refl
-descriptor_plain (array ds) e = refl
 descriptor_plain (object ms) e = never e
+descriptor_plain _ e = refl
 
 set_plain : (d : Data) → is_some (as_array d) ≡ false → strict_set d ≡ Some d
-set_plain null e = refl
-set_plain (boolean b) e = refl
-set_plain (number n) e = refl
-set_plain (string s) e = refl
 set_plain (array ds) e = never e
-set_plain (object ms) e = refl
+set_plain _ e = refl
 
 name_plain : (known : Known) (d : Data) → is_some (as_str d) ≡ false → strict_name known d ≡ Some d
-name_plain known null e = refl
-name_plain known (boolean b) e = refl
-name_plain known (number n) e = refl
 name_plain known (string s) e = never e
-name_plain known (array ds) e = refl
-name_plain known (object ms) e = refl
+name_plain known _ e = refl
 
 plain_by : (a b c : Bool) (known : Known) (d : Data)
     → (if a then is_some (as_object d) else if b then is_some (as_array d) else if c then is_some (as_str d) else false)
@@ -105,22 +93,14 @@ word_plain step None None e = refl
 -- a step with a word says no command
 no_command : (kind : StepKind) (step : Data) → says_command kind step ≡ false → IsRow (codes "word") (rows_of_kind kind)
     → is_some (get (codes "command") step) ≡ false
-no_command kind.Queue step e h = never (sym h)
-no_command kind.Group step e h = never (sym h)
-no_command kind.Enqcmd step e h = never (sym h)
-no_command kind.Movdir step e h = never (sym h)
-no_command kind.Dispatch step e h = never (sym h)
-no_command kind.Fetch step e h = never (sym h)
-no_command kind.Start step e h = never (sym h)
-no_command kind.Finish step e h = never (sym h)
 no_command kind.Command step e h = e
-no_command kind.Poll step e h = never (sym h)
-no_command kind.Clear step e h = never (sym h)
+no_command _ step e h = never (sym h)
 
 -- at a key of the kind the strict form has what stands there
 strict_plain : (kind : StepKind) (known : Known) (step : Data) (key : List ℕ) → says_command kind step ≡ false
     → is_friendly_at step key ≡ false → IsRow key (rows_of_kind kind) → strict_at known step key ≡ get key step
-strict_plain kind known step key says friendly row = go (bytes_eq key (codes "word")) (bytes_eq-Decides key (codes "word")).0
+strict_plain kind known step key says friendly row =
+    go (bytes_eq key (codes "word")) (bytes_eq-Decides key (codes "word")).0
   where
     go : (b : Bool) → (b ≡ true → key ≡ codes "word")
         → (if b then strict_word step (get (codes "word") step) (get (codes "command") step)
@@ -147,7 +127,8 @@ none_friendly step key (row ∷ rows) e h =
 
 -- ---- fields
 
-fields_at : (known : Known) (step : Data) (done : List Pair) (rows : List Row) (ps : List Pair) (key : List ℕ) (d : Data)
+fields_at : (known : Known) (step : Data) (done : List Pair) (rows : List Row) (ps : List Pair) (key : List ℕ)
+    (d : Data)
     → fields_onto known step done rows ≡ Some ps → strict_at known step key ≡ Some d → AreAt key d done → AreAt key d ps
 fields_at known step done [] ps key d e is h = subst (AreAt key d) (Some_inj done ps e) h
 fields_at known step done (row ∷ rows) ps key d e is h =
@@ -182,7 +163,8 @@ fields_has known step done (row ∷ rows) ps key e h =
     go true same v at made more k = (
       v,
       subst (λ l. strict_at known step l ≡ Some v) (same refl) at,
-      fields_keep known step (done ++ (row.0, v) ∷ []) rows ps key made (key_last key done (row.0, v) (sym (same refl))),
+      fields_keep known step (done ++ (row.0, v) ∷ []) rows ps key made
+          (key_last key done (row.0, v) (sym (same refl))),
     )
     go false same v at made more k = more k
 
@@ -198,12 +180,8 @@ found_passes test (y ∷ ys) x e = go (test y) refl (found_passes test ys x) e
     go false is more f = more f
 
 text_is : (d : Data) (text : List ℕ) → as_str d ≡ Some text → d ≡ string text
-text_is null text e = absurd cc
-text_is (boolean b) text e = absurd cc
-text_is (number n) text e = absurd cc
 text_is (string s) text e = ap string (Some_inj s text e)
-text_is (array ds) text e = absurd cc
-text_is (object ms) text e = absurd cc
+text_is _ text e = absurd cc
 
 -- the text `do` of a step of this kind
 do_text : (step : Data) (kind : StepKind) → kind_of step ≡ Some kind
@@ -217,16 +195,7 @@ do_text step kind e =
 
 named_back : (kind : StepKind) → kind_named (kind_text kind) ≡ Some kind
 named_back kind.Queue = refl
-named_back kind.Group = refl
-named_back kind.Enqcmd = refl
-named_back kind.Movdir = refl
-named_back kind.Dispatch = refl
-named_back kind.Fetch = refl
-named_back kind.Start = refl
-named_back kind.Finish = refl
-named_back kind.Command = refl
-named_back kind.Poll = refl
-named_back kind.Clear = refl
+named_back _ = refl
 
 -- ---- steps
 
@@ -247,8 +216,8 @@ module _ (known : Known) (step : Data) (ps : List Pair) (kind : StepKind) (field
   got_at key d inside at has =
       let first : key ≡ codes "do" → string (kind_text kind) ≡ d =
       λ is. Some_inj (string (kind_text kind)) d (sym do_at ∙ ap (strict_at known step) (sym is) ∙ at) in
-      let front = fields_at known step ((codes "do", string (kind_text kind)) ∷ []) (rows_of_kind kind) fields key d made at
-      (first, tt) in
+      let front = fields_at known step ((codes "do", string (kind_text kind)) ∷ []) (rows_of_kind kind) fields key d
+      made at (first, tt) in
       subst (λ qs. get key (object_with qs) ≡ Some d) all
       (got key d (fields ++ other_members kind step)
       (at_append key d fields (other_members kind step) front (others_at key d inside))
@@ -256,16 +225,18 @@ module _ (known : Known) (step : Data) (ps : List Pair) (kind : StepKind) (field
 
   kind_same : kind_of (object_with ps) ≡ Some kind
   kind_same =
-      let has = fields_keep known step ((codes "do", string (kind_text kind)) ∷ []) (rows_of_kind kind) fields (codes "do")
-      made (inl refl) in
+      let has = fields_keep known step ((codes "do", string (kind_text kind)) ∷ []) (rows_of_kind kind) fields
+      (codes "do") made (inl refl) in
       let there = got_at (codes "do") (string (kind_text kind)) refl do_at has in
       ap (λ o. option_and_then kind_named (option_and_then as_str o)) there ∙ named_back kind
 
   row_same : (key : List ℕ) → says_command kind step ≡ false → is_friendly_at step key ≡ false
       → IsRow key (rows_of_kind kind) → get key step ≡ get key (object_with ps)
   row_same key says friendly row =
-      let has = fields_has known step ((codes "do", string (kind_text kind)) ∷ []) (rows_of_kind kind) fields key made row in
-      let inside = middle (bytes_eq key (codes "do")) (list_any (λ (r : Row). bytes_eq r.0 key) (rows_of_kind kind)) _ row in
+      let has = fields_has known step ((codes "do", string (kind_text kind)) ∷ []) (rows_of_kind kind) fields key made
+      row in
+      let inside = middle (bytes_eq key (codes "do")) (list_any (λ (r : Row). bytes_eq r.0 key) (rows_of_kind kind)) _
+      row in
       sym (strict_plain kind known step key says friendly row) ∙ has.1 ∙ sym (got_at key has.0 inside has.1 has.2)
 
   rows_same : (rows : List Row) → ((key : List ℕ) → IsRow key rows → get key step ≡ get key (object_with ps))
@@ -282,8 +253,8 @@ module _ (known : Known) (step : Data) (ps : List Pair) (kind : StepKind) (field
       (rows_same (rows_of_kind kind)
       (λ key row. row_same key says (none_friendly step key (rows_of_kind kind) friendly row) row))
 
-plain_step : (known : Known) (step : Data) (ps : List Pair) → strict_step known step ≡ Some ps → is_friendly step ≡ false
-    → action_of step ≡ action_of (object_with ps)
+plain_step : (known : Known) (step : Data) (ps : List Pair) → strict_step known step ≡ Some ps
+    → is_friendly step ≡ false → action_of step ≡ action_of (object_with ps)
 plain_step known step ps e plain =
     let parts = made_of_parts known step ps e in
     let tests = subst (λ o. is_friendly_by step o ≡ false) parts.named plain in
@@ -294,11 +265,8 @@ pub plain_steps : (given : List Given) (ds : List Data) (pss : List (List Pair))
     → AreStrictBy given ds pss entries → list_any is_friendly ds ≡ false
     → map action_of ds ≡ map action_of (map object_with pss)
 plain_steps given [] [] [] h e = refl
-plain_steps given [] [] (r ∷ rs) h e = absurd h
-plain_steps given [] (ps ∷ pss) rs h e = absurd h
-plain_steps given (d ∷ ds) [] rs h e = absurd h
-plain_steps given (d ∷ ds) (ps ∷ pss) [] h e = absurd h
 plain_steps given (d ∷ ds) (ps ∷ pss) (r ∷ rs) h e =
     let both = neither (is_friendly d) (list_any is_friendly ds) e in
     ap (λ a. a ∷ map action_of ds) (plain_step (Some given) d ps h.0 both.0)
     ∙ ap (λ l. action_of (object_with ps) ∷ l) (plain_steps (with_given given d r) ds pss rs h.1 both.1)
+plain_steps given _ _ _ h e = absurd h

@@ -9,7 +9,7 @@ use Rattle.std.proofs.Common.{ap}
 use Rattle.std.specs.Prelude.{if◌then◌else◌, not, filter, is_some, ⊤, bytes_eq, ◌||◌}
 use Rattle.std.specs.Ordering.{match_ordering, nat_cmp}
 use Rattle.std.specs.Cmp.Lexicographic.{slice_cmp}
-use Rattle.serde_json.specs.Data.{Data, null, boolean, number, string, array, object, Items, no_items, item, Members}
+use Rattle.serde_json.specs.Data.{Data, string, array, object, Items, no_items, item, Members}
 use Rattle.serde_json.specs.Data.{no_members, member, depth, items_depth, members_depth}
 use Rattle.serde_json.specs.Find.{get, get_member, as_array}
 use Rattle.dsa_regs.specs.declared.Caps.{Caps}
@@ -28,7 +28,7 @@ use Rattle.dsa_expand.proofs.Jsons.{AreAllShallow}
 -- ---- optional values
 
 -- the value that is there nests no deeper
-abbrev AtMost : ℕ → Option Data → Type 0
+abbrev pub AtMost : ℕ → Option Data → Type 0
 AtMost n None = ⊤
 AtMost n (Some d) = depth d ≤ n
 
@@ -60,25 +60,17 @@ member_at_most key n (member l d ms) h =
     let here : depth d ≤ n = omega arith in
     by_order (slice_cmp nat_cmp key l) n (Some d) (get_member key ms) here rest
 
-get_at_most : (key : List ℕ) (n : ℕ) (d : Data) → depth d ≤ suc n → AtMost n (get key d)
+pub get_at_most : (key : List ℕ) (n : ℕ) (d : Data) → depth d ≤ suc n → AtMost n (get key d)
 get_at_most key n (object ms) h = member_at_most key n ms (omega arith)
-get_at_most key n null h = tt
-get_at_most key n (boolean b) h = tt
-get_at_most key n (number x) h = tt
-get_at_most key n (string s) h = tt
-get_at_most key n (array ds) h = tt
+get_at_most key n _ h = tt
 
 pairs_in_shallow : (n : ℕ) (ms : Members) → members_depth ms ≤ n → AreShallow n (pairs_in ms)
 pairs_in_shallow n no_members h = tt
 pairs_in_shallow n (member k d ms) h = (omega arith, pairs_in_shallow n ms (omega arith))
 
 pairs_shallow : (n : ℕ) (d : Data) → depth d ≤ suc n → AreShallow n (pairs_of d)
-pairs_shallow n null h = tt
-pairs_shallow n (boolean b) h = tt
-pairs_shallow n (number x) h = tt
-pairs_shallow n (string s) h = tt
-pairs_shallow n (array ds) h = tt
 pairs_shallow n (object ms) h = pairs_in_shallow n ms (omega arith)
+pairs_shallow n _ h = tt
 
 append_shallow : (n : ℕ) (ps qs : List Pair) → AreShallow n ps → AreShallow n qs → AreShallow n (ps ++ qs)
 append_shallow n [] qs h k = k
@@ -96,29 +88,17 @@ filter_shallow n test (p ∷ ps) h = if_shallow (test p) n p (filter test ps) h.
 -- ---- strict steps
 
 descriptor_shallow : (n : ℕ) (d : Data) → depth d ≤ n → AtMost n (strict_descriptor d)
-descriptor_shallow n null h = h
-descriptor_shallow n (boolean b) h = h
-descriptor_shallow n (number x) h = h
-descriptor_shallow n (string s) h = h
-descriptor_shallow n (array ds) h = h
 descriptor_shallow n (object ms) h =
     map_at_most n (λ d. string (digits_of_descriptor d)) (descriptor_said (object ms)) (λ d. omega arith)
+descriptor_shallow n _ h = h
 
 set_shallow : (n : ℕ) (d : Data) → depth d ≤ n → AtMost n (strict_set d)
-set_shallow n null h = h
-set_shallow n (boolean b) h = h
-set_shallow n (number x) h = h
-set_shallow n (string s) h = h
 set_shallow n (array ds) h = map_at_most n number_at (set_of 0 64 (list_of_items ds)) (λ x. omega arith)
-set_shallow n (object ms) h = h
+set_shallow n _ h = h
 
 name_shallow : (n : ℕ) (known : Known) (d : Data) → depth d ≤ n → AtMost n (strict_name known d)
-name_shallow n known null h = h
-name_shallow n known (boolean b) h = h
-name_shallow n known (number x) h = h
 name_shallow n known (string s) h = map_at_most n number_at (known_name known s) (λ x. omega arith)
-name_shallow n known (array ds) h = h
-name_shallow n known (object ms) h = h
+name_shallow n known _ h = h
 
 value_shallow : (n : ℕ) (known : Known) (key : List ℕ) (d : Data) → depth d ≤ n
     → AtMost n (strict_value known key d)
@@ -168,7 +148,8 @@ checked true ps qs e = cc
 checked false ps qs e = cc
 
 -- the fields of a step, and its other members
-pub members_shallow : (n : ℕ) (known : Known) (kind : StepKind) (step : Data) (fields ps : List Pair) → depth step ≤ suc n
+pub members_shallow : (n : ℕ) (known : Known) (kind : StepKind) (step : Data) (fields ps : List Pair)
+    → depth step ≤ suc n
     → fields_onto known step ((codes "do", string (kind_text kind)) ∷ []) (rows_of_kind kind) ≡ Some fields
     → fields ++ other_members kind step ≡ ps → AreShallow n ps
 members_shallow n known kind step fields ps low made is =
@@ -234,12 +215,9 @@ items_flat n (item d ds) h = (omega arith, items_flat n ds (omega arith))
 pub steps_shallow : (n : ℕ) (given : List Given) (ds : List Data) (pss : List (List Pair)) (entries : List Record)
     → AreFlat (suc n) ds → AreStrictBy given ds pss entries → AreAllShallow n pss
 steps_shallow n given [] [] [] low h = tt
-steps_shallow n given [] [] (r ∷ rs) low h = absurd h
-steps_shallow n given [] (ps ∷ pss) rs low h = absurd h
-steps_shallow n given (d ∷ ds) [] rs low h = tt
-steps_shallow n given (d ∷ ds) (ps ∷ pss) [] low h = absurd h
 steps_shallow n given (d ∷ ds) (ps ∷ pss) (r ∷ rs) low h =
     (step_shallow n (Some given) d ps low.0 h.0, steps_shallow n (with_given given d r) ds pss rs low.1 h.1)
+steps_shallow n given _ _ _ low h = absurd h
 
 -- ---- documents
 
@@ -254,15 +232,13 @@ pub record Parts (d : Data) (caps : Caps) (capacity : ℕ) (items : Items) : Typ
 pub head_parts : (caps : Option Caps) (capacity : Option ℕ) (steps : Option Items) (t : Caps × ℕ × Items)
     → option_and_then (λ c. option_and_then (λ n. option_and_then (λ ds. Some (c, n, ds)) steps) capacity) caps ≡ Some t
     → (caps ≡ Some t.0) × (capacity ≡ Some t.1) × (steps ≡ Some t.2)
-head_parts None capacity steps t e = absurd cc
-head_parts (Some c) None steps t e = absurd cc
-head_parts (Some c) (Some n) None t e = absurd cc
 head_parts (Some c) (Some n) (Some ds) t e =
     let same = Some_inj {A = Caps × ℕ × Items} (c, n, ds) t e in (
       ap (λ (x : Caps × ℕ × Items). Some x.0) same,
       ap (λ (x : Caps × ℕ × Items). Some x.1) same,
       ap (λ (x : Caps × ℕ × Items). Some x.2) same,
     )
+head_parts _ _ _ t e = absurd cc
 
 pub parts_of : (d : Data) (caps : Caps) (capacity : ℕ) (items : Items) → head_of d ≡ Some (caps, capacity, items)
     → Parts d caps capacity items
@@ -280,14 +256,10 @@ parts_of d caps capacity items e =
     }
 
 array_items : (n : ℕ) (d : Data) (ds : Items) → as_array d ≡ Some ds → depth d ≤ suc n → items_depth ds ≤ n
-array_items n null ds e h = cc
-array_items n (boolean b) ds e h = cc
-array_items n (number x) ds e h = cc
-array_items n (string s) ds e h = cc
 array_items n (array es) ds e h =
     let same : es ≡ ds = cc in
     rw (← same) (omega arith)
-array_items n (object ms) ds e h = cc
+array_items n _ ds e h = cc
 
 pub items_at_most : (d : Data) (caps : Caps) (capacity : ℕ) (items : Items) → Parts d caps capacity items
     → depth d ≤ 127 → items_depth items ≤ 125

@@ -107,12 +107,9 @@ spaced-json gap (json.object ms) h = spaced-tokens gap begin_object (members_tok
 
 mutual
   pub after-json : (c : Bool) (j : json.Json) → after c (json_tokens j) ≡ true
-  after-json c json.null = refl
-  after-json c (json.boolean b) = refl
-  after-json c (json.number s) = refl
-  after-json c (json.string s) = refl
   after-json c (json.array js) = after-items false js
   after-json c (json.object ms) = after-members false ms
+  after-json c _ = refl
 
   after-items : (c : Bool) (js : json.Items) → after c (items_tokens js) ≡ true
   after-items c json.no_items = refl

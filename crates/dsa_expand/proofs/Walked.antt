@@ -28,22 +28,16 @@ given-push : (given : List Given) (ds : List Data) (pss : List (List Pair)) (rs 
     → AreStrictBy given ds pss rs
     → given_onto given (ds ++ d ∷ []) (rs ++ r ∷ []) ≡ with_given (given_onto given ds rs) d r
 given-push given [] [] [] d r h = refl
-given-push given [] [] (y ∷ ys) d r h = absurd h
-given-push given [] (q ∷ qs) ys d r h = absurd h
-given-push given (x ∷ xs) [] ys d r h = absurd h
-given-push given (x ∷ xs) (q ∷ qs) [] d r h = absurd h
 given-push given (x ∷ xs) (q ∷ qs) (y ∷ ys) d r h = given-push (with_given given x y) xs qs ys d r h.1
+given-push given _ _ _ d r h = absurd h
 
 by-push : (given : List Given) (ds : List Data) (pss : List (List Pair)) (rs : List Record) (d : Data) (ps : List Pair)
     (r : Record) → AreStrictBy given ds pss rs → strict_step (Some (given_onto given ds rs)) d ≡ Some ps
     → AreStrictBy given (ds ++ d ∷ []) (pss ++ ps ∷ []) (rs ++ r ∷ [])
 by-push given [] [] [] d ps r h e = (e, tt)
-by-push given [] [] (y ∷ ys) d ps r h e = absurd h
-by-push given [] (q ∷ qs) ys d ps r h e = absurd h
-by-push given (x ∷ xs) [] ys d ps r h e = absurd h
-by-push given (x ∷ xs) (q ∷ qs) [] d ps r h e = absurd h
 by-push given (x ∷ xs) (q ∷ qs) (y ∷ ys) d ps r h e =
     (h.0, by-push (with_given given x y) xs qs ys d ps r h.1 e)
+by-push given _ _ _ d ps r h e = absurd h
 
 pub walked_more : (caps : Caps) (capacity : ℕ) (steps : List Data) (now new : Running) (tickets more : List Ticket)
     (given longer : List Given) (pss : List (List Pair)) (d : Data) (ps : List Pair) (a : Action) (entry : Record)
@@ -62,7 +56,8 @@ walked_more caps capacity steps now new tickets more given longer pss d ps a ent
           (sym (length-append steps (d ∷ [])))
           (one_more AreRecordsOf (λ r q. []) caps capacity now new h.actions a (length steps) tickets more h.records
           (h.records ++ entry ∷ []) [] entry asked asks answers leads noted refl
-          (λ made before told is. map-append (λ (step : Visit). step.entry) made _ ∙ ap (λ l. l ++ entry ∷ []) is) h.walk);
+          (λ made before told is. map-append (λ (step : Visit). step.entry) made _ ∙ ap (λ l. l ++ entry ∷ []) is)
+          h.walk);
       by = by-push [] steps pss h.records d ps entry h.by
           (subst (λ g. strict_step (Some g) d ≡ Some ps) h.named form);
       asked = rw (

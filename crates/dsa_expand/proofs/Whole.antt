@@ -1,5 +1,5 @@
 -- The strict form of a whole document, and its faults.
-use Rattle.std.proofs.Common.{◌≡◌, ◌≤◌, ◌<◌, ◌+◌, ◌^◌, ℕ, Bool, true, false, List, [], ◌∷◌, ◌++◌, Option, Some, codes, refl, sym}
+use Rattle.std.proofs.Common.{◌≡◌, ◌≤◌, ◌<◌, ◌+◌, ℕ, Bool, true, false, List, [], ◌∷◌, ◌++◌, Some, codes, refl, sym}
 use Rattle.std.proofs.Common.{ap, subst, arith, map, take, length, get_or}
 use Rattle.std.proofs.Common.{◌≢◌, ◌⊎◌, None, inl, inr}
 use Rattle.std.proofs.lemmas.{List.{map-append, take_all, length-map}, Option.{slice_get-map, slice_get_read}}
@@ -10,13 +10,13 @@ use Rattle.serde_json.specs.{Data.{Data, Items, depth}, Find.{get}, Read.{read}}
 use Rattle.serde_json.specs.{View.{view, items_view}, declared.value.Value.{Value}}
 use Rattle.serde_json.proofs.Nesting.{depth-read}
 use Rattle.dsa_regs.specs.declared.Caps.{Caps}
-use Rattle.dsa_scenario.specs.declared.faults.ScenarioFault.{ScenarioFault, TheVariants.{Read, TooLong, NotJson}}
-use Rattle.dsa_scenario.specs.declared.faults.ScenarioFault.TheVariants.{BadDocument, BadStep, BadCaps, BadCapacity}
-use Rattle.dsa_scenario.specs.declared.faults.ScenarioFault.TheVariants.{Differs, Write, OutOfMemory}
+use Rattle.dsa_scenario.specs.declared.faults.ScenarioFault.{ScenarioFault}
+use Rattle.dsa_scenario.specs.declared.faults.ScenarioFault.TheVariants.{BadStep, BadCaps, BadCapacity, OutOfMemory}
 use Rattle.dsa_scenario.specs.Document.{head_of, list_of_items, IsJson, IsOpenable, IsOpeningFault}
 use Rattle.dsa_expand.specs.{Steps.{Pair, is_friendly, strict_step}, Values.{pairs_of}, Layout.{IsDocumentText}}
 use Rattle.dsa_expand.specs.Expansion.{AreExpanded, IsLaidOut, IsStrictForm, strict_document, head_pairs, is_part, pair_at}
-use Rattle.dsa_expand.specs.Expansion.{read_of, AreLikely, IsExpansion, IsFaultOfSteps, HasStepFault, IsStuckAt, IsUnlikelyAt}
+use Rattle.dsa_expand.specs.Expansion.{read_of, AreLikely, HasStepFault, IsFaultOfSteps}
+use Rattle.dsa_expand.specs.Expansion.{IsStuckAt, IsUnlikelyAt}
 use Rattle.dsa_expand.specs.Walk.{IsToldOfDevice}
 use Rattle.dsa_expand.proofs.{Lists.{listed, taken_more}, Faultless.{document_of}}
 use Rattle.dsa_expand.specs.Members.{AreFlat, AreShallow}
@@ -103,8 +103,8 @@ all_likely vs i past h =
     let all : take i (map view vs) ≡ map view vs = take_all i (map view vs) (rw (length-map vs view) past) in
     rw all at h
 
-module _ (bytes : List ℕ) (document : Data) (caps : Caps) (capacity : ℕ) (vs : List Value) (json : IsJson bytes document)
-    (head : head_of document ≡ Some (caps, capacity, items_view vs)) where
+module _ (bytes : List ℕ) (document : Data) (caps : Caps) (capacity : ℕ) (vs : List Value)
+    (json : IsJson bytes document) (head : head_of document ≡ Some (caps, capacity, items_view vs)) where
   pub steps_flat : AreFlat 127 (map view vs)
   steps_flat =
       let parts = parts_of document caps capacity (items_view vs) head in
@@ -122,30 +122,24 @@ module _ (bytes : List ℕ) (document : Data) (caps : Caps) (capacity : ℕ) (vs
     bad = rw (listed (map view vs)) bad;
   }
 
-  pub told_stuck : (told : Option ScenarioFault) (text : List ℕ) (i : ℕ) → told ≡ Some (BadStep i) → text ≡ []
-      → IsOpenable caps capacity → IsStuckAt caps capacity (map view vs) i → IsExpansion bytes told text
-  told_stuck told text i is none opening stuck = rw (is, none) (refl, faulty (BadStep i) (inl (opening, stuck)))
+  pub is_stuck : (i : ℕ) → IsOpenable caps capacity → IsStuckAt caps capacity (map view vs) i
+      → HasStepFault bytes (BadStep i)
+  is_stuck i opening stuck = faulty (BadStep i) (inl (opening, stuck))
 
-  opening_told : (e : ScenarioFault) → AreLikely (map view vs) → IsOpeningFault caps capacity e
-      → IsExpansion bytes (Some e) []
-  opening_told Read likely h = absurd h
-  opening_told TooLong likely h = absurd h
-  opening_told NotJson likely h = absurd h
-  opening_told BadDocument likely h = absurd h
-  opening_told (BadStep i) likely h = absurd h
-  opening_told BadCaps likely h = (refl, faulty BadCaps (likely, h))
-  opening_told BadCapacity likely h = (refl, faulty BadCapacity (likely, h))
-  opening_told (Differs i) likely h = absurd h
-  opening_told Write likely h = absurd h
-  opening_told OutOfMemory likely h = absurd h
+  opening_fault : (e : ScenarioFault) → AreLikely (map view vs) → IsOpeningFault caps capacity e
+      → HasStepFault bytes e
+  opening_fault BadCaps likely h = faulty BadCaps (likely, h)
+  opening_fault BadCapacity likely h = faulty BadCapacity (likely, h)
+  opening_fault _ likely h = absurd h
 
-  pub told_device : (told : Option ScenarioFault) (text : List ℕ) (e : ScenarioFault) → e ≢ OutOfMemory → text ≡ []
-      → (e ≡ OutOfMemory) ⊎ IsOpeningFault caps capacity e → IsToldOfDevice (map view vs) e told
-      → IsExpansion bytes told text
-  told_device told text e other none (inl memory) h = absurd (other memory)
-  told_device told text e other none (inr h) (inl (likely, is)) = rw (is, none) (opening_told e likely h)
-  told_device told text e other none (inr h) (inr (i, unlikely, is)) =
-      rw (is, none) (refl, faulty (BadStep i) (inr ((e, h), unlikely)))
+  pub is_of_device : (e told : ScenarioFault) → (e ≡ OutOfMemory) ⊎ IsOpeningFault caps capacity e
+      → (told ≡ OutOfMemory) ⊎ ((e ≢ OutOfMemory) × IsToldOfDevice (map view vs) e told)
+      → (told ≡ OutOfMemory) ⊎ HasStepFault bytes told
+  is_of_device e told h (inl memory) = inl memory
+  is_of_device e told (inl memory) (inr (other, is)) = absurd (other memory)
+  is_of_device e told (inr h) (inr (other, inl (likely, is))) = inr (rw is (opening_fault e likely h))
+  is_of_device e told (inr h) (inr (other, inr (i, unlikely, is))) =
+      inr (rw is (faulty (BadStep i) (inr ((e, h), unlikely))))
 
   pub form_of : (strict : List (List Pair)) (text : String Global) → AreExpanded caps capacity (map view vs) strict
       → IsOpenable caps capacity
@@ -154,10 +148,3 @@ module _ (bytes : List ℕ) (document : Data) (caps : Caps) (capacity : ℕ) (vs
   form_of strict text steps opening laid =
       strict_form bytes document caps capacity (items_view vs) strict text json head
       (rw (listed (map view vs)) steps) opening (rw (listed (map view vs)) laid)
-
-  pub told_long : (told : Option ScenarioFault) (none : List ℕ) (strict : List (List Pair)) (text : String Global)
-      → told ≡ Some TooLong → none ≡ [] → AreExpanded caps capacity (map view vs) strict → IsOpenable caps capacity
-      → IsLaidOut (list_any is_friendly (map view vs)) bytes document strict (string_bytes text)
-      → 2 ^ 20 < length (string_bytes text) → IsExpansion bytes told none
-  told_long told none strict text is empty steps opening laid long =
-      rw (is, empty) (refl, (string_bytes text, form_of strict text steps opening laid, long))

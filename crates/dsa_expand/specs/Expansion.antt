@@ -8,8 +8,9 @@ use Rattle.dsa_book.specs.Machine.{is_run}
 use Rattle.dsa_scenario.specs.declared.{actions.Action.{Action}, run.Record.{Record}}
 use Rattle.dsa_scenario.specs.{Actions.{action_of}, Run.{AreOf, steps_of_records}}
 use Rattle.dsa_scenario.specs.declared.faults.ScenarioFault.{ScenarioFault}
-use Rattle.dsa_scenario.specs.declared.faults.ScenarioFault.TheVariants.{BadStep, TooLong}
-use Rattle.dsa_scenario.specs.Document.{head_of, list_of_items, IsDocument, IsJson, IsOpenable, IsOpeningFault}
+use Rattle.dsa_scenario.specs.declared.faults.ScenarioFault.TheVariants.{NotJson, BadDocument, BadStep, TooLong}
+use Rattle.dsa_scenario.specs.Document.{head_of, list_of_items, HasNoHead, IsDocument, IsJson, IsNoJson}
+use Rattle.dsa_scenario.specs.Document.{IsOpenable, IsOpeningFault}
 use Rattle.dsa_expand.specs.Values.{pairs_of}
 use Rattle.dsa_expand.specs.Steps.{Pair, Given, put_all, object_with, with_given, given_onto, strict_step, is_friendly}
 use Rattle.dsa_expand.specs.Layout.{IsDocumentText}
@@ -117,6 +118,12 @@ pub record HasStepFault (bytes : List ℕ) (fault : ScenarioFault) : Type 0 wher
   pub json : IsJson bytes document
   pub head : head_of document ≡ Some (caps, capacity, items)
   pub bad : IsFaultOfSteps caps capacity (list_of_items items) fault
+
+-- the document in these bytes has no strict form for this fault, the first that it has (profile)
+abbrev pub HasNoStrictForm : List ℕ → ScenarioFault → Type 0
+HasNoStrictForm bytes NotJson = IsNoJson bytes
+HasNoStrictForm bytes BadDocument = HasNoHead bytes
+HasNoStrictForm bytes fault = HasStepFault bytes fault
 
 -- what is told of a document: its strict form, which is no longer than a document may be, or no text and a fault
 -- (profile)

@@ -24,6 +24,6 @@ pub record IsWalkedOver (caps : Caps) (capacity : ℕ) (steps : List Data) (now 
   pub named : given ≡ given_onto [] steps records
 
 -- what is told of steps where this fault keeps a device from being made
-abbrev pub IsToldOfDevice : List Data → ScenarioFault → Option ScenarioFault → Type 0
-IsToldOfDevice steps fault told = (AreLikely steps × (told ≡ Some fault))
-    ⊎ ((i : ℕ) × IsUnlikelyAt steps i × (told ≡ Some (BadStep i)))
+abbrev pub IsToldOfDevice : List Data → ScenarioFault → ScenarioFault → Type 0
+IsToldOfDevice steps fault told = (AreLikely steps × (told ≡ fault))
+    ⊎ ((i : ℕ) × IsUnlikelyAt steps i × (told ≡ BadStep i))

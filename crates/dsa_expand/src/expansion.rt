@@ -1,15 +1,18 @@
 //! A document in, its strict form out.
 
-ghost use Rattle.std.specs.Prelude.{◌≡◌, ◌≢◌, ◌++◌, [], map, filter, not, IfErr, IfOk, IsUtf8};
+ghost use Rattle.std.specs.Prelude.{◌≡◌, ◌≢◌, ◌⊎◌, ◌++◌, [], ℕ, List, map, filter, not};
+ghost use Rattle.std.specs.Prelude.{IfErr, IfOk, IsUtf8};
 ghost use Rattle.std.specs.Prelude.{MatchOption, OnOk, Some, string_bytes};
 ghost use Rattle.std.specs.List.{list_any};
 ghost use Rattle.serde_json.specs.{Find.{get}, View.{items_view, view}};
-ghost use Rattle.dsa_scenario.specs.Document.{IsJson, head_of};
+ghost use Rattle.dsa_scenario.specs.Document.{IsFaultOf, IsJson, head_of};
 ghost use Rattle.dsa_scenario.specs.declared.faults.ScenarioFault.{ScenarioFault};
 ghost use Rattle.dsa_expand.specs.Members.{AreFlat, pair_of, pairs_of_step};
 ghost use Rattle.dsa_expand.specs.Steps.{is_friendly};
 ghost use Rattle.dsa_expand.specs.Values.{pairs_of};
-ghost use Rattle.dsa_expand.specs.Expansion.{AreLikely, IsExpansion, IsLaidOut, IsUnlikelyAt};
+ghost use Rattle.dsa_expand.specs.Expansion.{AreLikely, HasNoStrictForm, HasStepFault};
+ghost use Rattle.dsa_expand.specs.Expansion.{IsExpansion, IsLaidOut};
+ghost use Rattle.dsa_expand.specs.Expansion.{IsStrictForm, IsUnlikelyAt};
 ghost use Rattle.dsa_expand.specs.Walk.{IsToldOfDevice};
 ghost use Rattle.dsa_expand.specs.Expansion.{head_pairs, is_part, pair_at};
 
@@ -140,7 +143,63 @@ fn text_for(
     document_text(alloc, members.as_slice(), strict)
 }
 
-// What is told of a fault: no text.
+// The fault of a document for which no device can be made: that of a step comes first.
+fn fault_of_device(alloc: Global, steps: &[Value], fault: ScenarioFault) -> ScenarioFault
+    requires { AreFlat 127 (map view steps.now) }
+    ensures { (result ≡ ScenarioFault.OutOfMemory)
+        ⊎ ((fault ≢ ScenarioFault.OutOfMemory)
+        × IsToldOfDevice (map view steps.now) fault result) }
+{
+    if !matches!(fault, ScenarioFault::BadCaps | ScenarioFault::BadCapacity) {
+        return ScenarioFault::OutOfMemory;
+    }
+    match first_unlikely(alloc, steps) {
+        Ok(Some(i)) => ScenarioFault::BadStep(i as u64),
+        Ok(None) => fault,
+        Err(_) => ScenarioFault::OutOfMemory,
+    }
+}
+
+// The strict form of the document in these bytes, which has this head.
+fn expand_document(
+    alloc: Global,
+    bytes: &[u8],
+    document: &Value,
+    head: &Head<'_>,
+) -> Result<String, ScenarioFault>
+    requires json { IsJson bytes.now (view document.now) }
+    requires head { head_of (view document.now)
+        ≡ Some (head.now.caps, head.now.capacity, items_view head.now.steps.now) }
+    ensures ok { IfOk result (λ text. IsStrictForm bytes.now (string_bytes text)) }
+    ensures err { IfErr result
+        (λ e. (e ≡ ScenarioFault.OutOfMemory) ⊎ HasStepFault bytes.now e) }
+{
+    let mut walk = match open_walk(alloc, head.caps, head.capacity) {
+        Ok(walk) => walk,
+        Err(fault) => return Err(fault_of_device(alloc, head.steps, fault)),
+    };
+    if let Some(i) = walk_steps(alloc, &mut walk, head.steps)? {
+        return Err(ScenarioFault::BadStep(i as u64));
+    }
+    let text = text_for(alloc, bytes, document, head.steps, walk.strict.as_slice())?;
+    Ok(text)
+}
+
+/// The strict form of the document in these bytes, or the fault for which it has none. The strict
+/// form may be longer than a document.
+pub fn strict_form(alloc: Global, bytes: &[u8]) -> Result<String, ScenarioFault>
+    ensures ok { IfOk result (λ text. IsStrictForm bytes.now (string_bytes text)) }
+    ensures err { IfErr result
+        (λ e. (e ≡ ScenarioFault.OutOfMemory) ⊎ HasNoStrictForm bytes.now e) }
+{
+    let value = parse_json(alloc, bytes)?;
+    let Some(head) = parse_head(&value) else {
+        return Err(ScenarioFault::BadDocument);
+    };
+    expand_document(alloc, bytes, &value, &head)
+}
+
+// What is made of a document with this fault: no text.
 fn fault_alone(alloc: Global, fault: ScenarioFault) -> Rendering
     ensures text { string_bytes result.text ≡ [] }
     ensures fault { result.fault ≡ Some fault }
@@ -152,57 +211,45 @@ fn fault_alone(alloc: Global, fault: ScenarioFault) -> Rendering
     }
 }
 
-// What is told where no device can be made.
-fn told_of_device(alloc: Global, steps: &[Value], fault: ScenarioFault) -> Rendered
-    requires { AreFlat 127 (map view steps.now) }
-    ensures ok { IfOk result
-        (λ r. (fault ≢ ScenarioFault.OutOfMemory) × (string_bytes r.text ≡ [])
-        × IsToldOfDevice (map view steps.now) fault r.fault) }
-    ensures err { IfErr result (λ e. e ≡ ScenarioFault.OutOfMemory) }
+// What is made of a document with this strict form, which is to be no longer than a document.
+fn rendering_of(alloc: Global, text: String) -> Rendering
+    ensures { (bytes : List ℕ) → IsStrictForm bytes (string_bytes text)
+        → IsExpansion bytes result.fault (string_bytes result.text) }
 {
-    if !matches!(fault, ScenarioFault::BadCaps | ScenarioFault::BadCapacity) {
-        return Err(ScenarioFault::OutOfMemory);
-    }
-    Ok(match first_unlikely(alloc, steps)? {
-        Some(i) => fault_alone(alloc, ScenarioFault::BadStep(i as u64)),
-        None => fault_alone(alloc, fault),
-    })
-}
-
-// The strict form of the document with this head.
-fn render_strict(alloc: Global, bytes: &[u8], document: &Value, head: &Head<'_>) -> Rendered
-    requires json { IsJson bytes.now (view document.now) }
-    requires head { head_of (view document.now)
-        ≡ Some (head.now.caps, head.now.capacity, items_view head.now.steps.now) }
-    ensures ok { IfOk result (λ r. IsExpansion bytes.now r.fault (string_bytes r.text)) }
-    ensures err { IfErr result (λ e. e ≡ ScenarioFault.OutOfMemory) }
-{
-    let mut walk = match open_walk(alloc, head.caps, head.capacity) {
-        Ok(walk) => walk,
-        Err(fault) => return Ok(told_of_device(alloc, head.steps, fault)?),
-    };
-    if let Some(i) = walk_steps(alloc, &mut walk, head.steps)? {
-        return Ok(fault_alone(alloc, ScenarioFault::BadStep(i as u64)));
-    }
-    let text = text_for(alloc, bytes, document, head.steps, walk.strict.as_slice())?;
     if text.len() > MAX_BYTES {
-        return Ok(fault_alone(alloc, ScenarioFault::TooLong));
+        return fault_alone(alloc, ScenarioFault::TooLong);
     }
-    Ok(Rendering {
+    Rendering {
         text,
         fault: None,
         document: None,
-    })
+    }
+}
+
+// What is made of a document that has no strict form for this fault.
+fn rendering_without(alloc: Global, fault: ScenarioFault) -> Rendered
+    ensures ok { IfOk result
+        (λ r. (bytes : List ℕ) → (fault ≡ ScenarioFault.OutOfMemory) ⊎ HasNoStrictForm bytes fault
+        → IsExpansion bytes r.fault (string_bytes r.text)) }
+    ensures err { IfErr result
+        (λ e. (bytes : List ℕ) → (fault ≡ ScenarioFault.OutOfMemory) ⊎ HasNoStrictForm bytes fault
+        → (e ≡ ScenarioFault.OutOfMemory) ⊎ IsFaultOf bytes e) }
+{
+    match fault {
+        ScenarioFault::NotJson | ScenarioFault::BadDocument | ScenarioFault::OutOfMemory => {
+            Err(fault)
+        }
+        _ => Ok(fault_alone(alloc, fault)),
+    }
 }
 
 impl Render for Expansion {
     ghost is_rendering = { λ expansion bytes fault text. IsExpansion bytes fault text };
 
     fn render(&self, alloc: Global, bytes: &[u8]) -> Rendered {
-        let value = parse_json(alloc, bytes)?;
-        let Some(head) = parse_head(&value) else {
-            return Err(ScenarioFault::BadDocument);
-        };
-        render_strict(alloc, bytes, &value, &head)
+        match strict_form(alloc, bytes) {
+            Ok(text) => Ok(rendering_of(alloc, text)),
+            Err(fault) => rendering_without(alloc, fault),
+        }
     }
 }

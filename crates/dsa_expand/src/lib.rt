@@ -15,7 +15,7 @@ mod steps;
 mod values;
 mod walk;
 
-pub use expansion::Expansion;
+pub use expansion::{Expansion, strict_form};
 pub use friendly::Friendly;
 pub use single::{Meaning, meaning_of};
 pub use steps::GivenName;

@@ -1,7 +1,6 @@
 -- Why an entry that an engine ends does not complete with success.
-use Rattle.std.specs.Prelude.{ℕ, cond, ◌==◌, [], ◌∷◌, count_by, find, Option, None, is_none, option_map}
+use Rattle.std.specs.Prelude.{ℕ, cond, ◌==◌, [], ◌∷◌, count_by, find, Option, Some, None, is_none, option_map}
 use Rattle.std.specs.Prelude.{option_and_then}
-use Rattle.std.specs.Option.{option_map_or}
 use Rattle.dsa_base.specs.Rows.{first_row}
 use Rattle.dsa_desc.specs.declared.Outcome.{Outcome}
 use Rattle.dsa_store.specs.{declared.entry.Entry.{Entry}, Content.{HeldEntry, entry_of}}
@@ -10,7 +9,8 @@ use Rattle.dsa_book.specs.declared.answer.Ticket.{Ticket}
 use Rattle.dsa_book.specs.{State.{Work, limits_at}, Work.{last_status}}
 use Rattle.dsa_engines.specs.{Batch.{is_failed_in}, Finish.{finish_reason}}
 use Rattle.dsa_explain.specs.declared.done.DoneReason.{DoneReason, TheVariants.{NotSupported, FenceOutside}}
-use Rattle.dsa_explain.specs.declared.done.DoneReason.TheVariants.{SizeOutside, CountOutside, MembersFailed, PageFault}
+use Rattle.dsa_explain.specs.declared.done.DoneReason.TheVariants.{SizeOutside, CountOutside, MembersFailed}
+use Rattle.dsa_explain.specs.declared.done.DoneReason.TheVariants.{FailureForgotten, PageFault}
 
 -- ---- members that failed
 
@@ -22,12 +22,14 @@ abbrev pub status_of_fate : Fate → ℕ
 status_of_fate (Completed status) = status
 status_of_fate fate = 0
 
--- its name and its status, and how many there are
+-- of so many, with the name and the status of the first; where there is none, its fate was forgotten
+abbrev pub failure_of : ℕ → Option FateRow → DoneReason
+failure_of failed None = FailureForgotten
+failure_of failed (Some row) = MembersFailed row.name (status_of_fate row.fate) failed
+
+-- the first of them, and how many there are
 abbrev pub members_failed : Work → ℕ → DoneReason
-members_failed w batch = MembersFailed
-    (option_map_or (λ (row : FateRow). row.name) (first_failure w batch) 0)
-    (option_map_or (λ (row : FateRow). status_of_fate row.fate) (first_failure w batch) 0)
-    (count_by (is_failed_in batch) w.fates)
+members_failed w batch = failure_of (count_by (is_failed_in batch) w.fates) (first_failure w batch)
 
 -- ---- the reason
 

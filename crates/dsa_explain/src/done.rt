@@ -38,12 +38,15 @@ pub enum DoneReason {
         shift: u8,
         queue: u16,
     },
-    /// 0x05: so many members of the batch were not successful; name and status of the first.
+    /// 0x05: so many members of the batch were not successful; name and status of the first. Those
+    /// whose fates were forgotten do not count.
     MembersFailed {
         first: u32,
         status: u8,
         failed: usize,
     },
+    /// 0x05: members of the batch were not successful, and the fates of all of them were forgotten.
+    FailureForgotten,
     /// 0x03: the work met a page fault.
     PageFault,
 }
@@ -84,15 +87,13 @@ fn count_failed(fates: &[FateRow], batch: u32) -> usize
 fn members_failed<S: EntryStore>(device: &Device<S>, batch: u32) -> DoneReason
     ensures { result ≡ members_failed device.now.state.work batch }
 {
-    let failed = count_failed(device.fates(), batch);
-    let (first, status) = match first_failed(device.fates(), batch) {
-        Some(row) => (row.name, status_of_fate(row.fate)),
-        None => (0, 0),
-    };
-    DoneReason::MembersFailed {
-        first,
-        status,
-        failed,
+    match first_failed(device.fates(), batch) {
+        Some(row) => DoneReason::MembersFailed {
+            first: row.name,
+            status: status_of_fate(row.fate),
+            failed: count_failed(device.fates(), batch),
+        },
+        None => DoneReason::FailureForgotten,
     }
 }
 

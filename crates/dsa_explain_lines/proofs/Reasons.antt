@@ -10,7 +10,7 @@ use Rattle.std.proofs.Common.{◌≡◌, ◌≢◌, ℕ, ◌<◌, ◌≤◌, ◌
 use Rattle.std.proofs.Common.{Option, Some, None, refl, sym, ap, ◌∙◌, arith, inl, inr, nat_lt, length}
 use Rattle.std.proofs.lemmas.{Grind.{common_steps}, Bool.{cases_lt, not-true}}
 use Rattle.std.specs.{Prelude.{codes, flat_map, slice_set, find, is_some, option_and_then}, List.{list_any}, Option.{option_map}}
-use Rattle.dsa_base.{specs.{Rows.{first_row_or}, Numbers.{numbers_below}}, proofs.{Tables.{when-some}, NumberLemmas.{numbers_below-miss}}}
+use Rattle.dsa_base.{specs.{Rows.{first_row_or, when}, Numbers.{numbers_below}}, proofs.{Tables.{when-some}, NumberLemmas.{numbers_below-miss}}}
 use Rattle.dsa_desc.specs.declared.{Descriptor.{Descriptor}, Outcome.{Outcome}}
 use Rattle.dsa_desc.specs.Descriptor.{is_successful, is_supported, is_fenced, is_transfer, is_batch, is_within, is_page_fault}
 use Rattle.dsa_regs.specs.declared.{Caps.{Caps}, Command.{Command}, QueueConfig.{QueueConfig}, GroupConfig.{GroupConfig}}
@@ -41,11 +41,12 @@ use Rattle.dsa_engines.specs.Finish.{finish_reason, finish_answer, unended}
 use Rattle.dsa_engines.proofs.{Batches.{fetch-told}, StartReasons.{started-told}, EndReasons.{ended-told}, Finding.{meant_in, found}, TakeReasons.{reason-some}}
 use Rattle.dsa_admin.specs.declared.reasons.{IssueReason.{IssueReason}, PollReason.{PollReason}}
 use Rattle.dsa_admin.specs.Command.{issue_reason, issue_by, poll_reason, poll_answer_by}
+use Rattle.dsa_device.specs.Running.{Running, running_after}
 use Rattle.dsa_explain.specs.declared.awaiting.WaitReason.{WaitReason}
 use Rattle.dsa_explain.specs.{Held.{awaited_entry}, Wait.{wait_reason, is_active_answer}, Done.{done_reason, ending_entry, status_reason}}
 use Rattle.dsa_explain_lines.specs.Parts.{told_of, any_reason, joint, queue_part, queue_part_of, dispatch_part, dispatch_part_of}
 use Rattle.dsa_explain_lines.specs.Parts.{start_part, start_part_of, finish_part, finish_part_of, deed_part, issue_part_of}
-use Rattle.dsa_explain_lines.specs.Parts.{event_part, room_part, wait_part, wait_part_of}
+use Rattle.dsa_explain_lines.specs.Parts.{event_part, room_part, names_part, full_part, wait_part, wait_part_of}
 use Rattle.dsa_explain_lines.specs.Sentences.{done_sentence, submit_sentence, fetch_sentence, poll_sentence}
 use Rattle.dsa_explain_lines.specs.{Sentences.{write_sentence, clear_sentence, no_engine, no_queue}, Lines.{is_taken_by}}
 use Rattle.dsa_explain_lines.specs.Success.{is_success}
@@ -329,19 +330,35 @@ module _ (s : State) (once : (cell : Cell) → use_count s.work.content cell ≤
       go (Some s') is h = next-each (λ r after. is_success r ≡ false → event_part s event ≢ []) s s' event reply
           (λ choice may chosen. each event choice) is
 
-  -- and of what may follow a history of this device
-  pub follows-told : (caps : Caps) (capacity : ℕ) (history : List Step) (step : Step) → Reaches caps history s
-      → may_follow caps capacity history step ≡ true → is_success step.reply ≡ false
-      → cond (length history == capacity) (room_part capacity) (event_part s step.event) ≢ []
-  follows-told caps capacity history step reached = go (length history == capacity)
+  -- and of what may follow a history of this device, with a text where the history is full
+  pub follows-told : (caps : Caps) (capacity : ℕ) (history : List Step) (step : Step) (room : List ℕ) → room ≢ []
+      → Reaches caps history s → may_follow caps capacity history step ≡ true → is_success step.reply ≡ false
+      → cond (length history == capacity) room (event_part s step.event) ≢ []
+  follows-told caps capacity history step room some reached = go (length history == capacity)
     where
       go : (full : Bool) → cond full (is_full_reply step.event step.reply)
           (is_some (option_and_then (λ s. next s step.event step.reply) (replay caps history))) ≡ true
-          → is_success step.reply ≡ false → cond full (room_part capacity) (event_part s step.event) ≢ []
-      go true may fails = begins _ _
+          → is_success step.reply ≡ false → cond full room (event_part s step.event) ≢ []
+      go true may fails = some
       go false may fails = next-told step.event step.reply
           (ap (λ (at : Option State). is_some (option_and_then (λ s. next s step.event step.reply) at)) (sym reached) ∙ may)
           fails
+
+  -- and of what this device may answer
+  pub answered-told : (d after : Running) (event : Event) (reply : Reply) (room : List ℕ) → room ≢ [] → (full : Bool)
+      → cond full (when (is_full_reply event reply) d) (option_map (running_after d event reply) (next s event reply))
+      ≡ Some after
+      → is_success reply ≡ false → cond full room (event_part s event) ≢ []
+  answered-told d after event reply room some true is fails = some
+  answered-told d after event reply room some false is fails = next-told event reply (there (next s event reply) is) fails
+    where
+      there : (to : Option State) → option_map (running_after d event reply) to ≡ Some after → is_some to ≡ true
+      there None is = absurd cc
+      there (Some t) is = refl
+
+-- a history without room has its text
+pub full-told : (now : Running) → full_part now ≢ []
+full-told now = longer (room_part now.capacity) (names_part now) (begins _ _)
 
 -- what is taken is a success, so that a reason is shown
 pub is-shown : (reply : Reply) (part : List ℕ) → is_success reply ≡ false → part ≢ [] → cond (is_taken_by reply) [] part ≢ []

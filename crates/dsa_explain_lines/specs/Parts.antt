@@ -195,6 +195,14 @@ event_part s event.ClearError = told_of clear_sentence (clear_reason s.work.setu
 abbrev pub room_part : ℕ → List ℕ
 room_part capacity = count_text (codes ": the history has room for ") capacity (codes "step") (codes "steps")
 
+-- that no more names were left, where that is why it has no more room
+abbrev pub names_part : Running → List ℕ
+names_part now = cond (nat_lt now.capacity now.room) (codes ", as many as names were left") []
+
+-- what is told of any event where the history is full
+abbrev pub full_part : Running → List ℕ
+full_part now = room_part now.capacity ++ names_part now
+
 -- what is said of bits 30:25 of a word, which have to be clear
 abbrev pub reserved_part : ℕ → List ℕ
 reserved_part reserved = codes ", with " ++ decimal reserved ++ codes " in bits 30:25"
@@ -211,4 +219,4 @@ word_part word = no_command_part (word / 2 ^ 20 % 2 ^ 5) (word / 2 ^ 25 % 2 ^ 6)
 abbrev pub part_of : Running → Result Event BadWord → List ℕ
 part_of now (Err refused) = word_part refused.word
 part_of now (Ok event) =
-    cond (length now.history == now.capacity) (room_part now.capacity) (event_part now.state event)
+    cond (length now.history == now.capacity) (full_part now) (event_part now.state event)

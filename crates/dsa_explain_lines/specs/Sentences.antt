@@ -133,9 +133,9 @@ fetch_sentence e fetch.NoEngine = no_engine e
 fetch_sentence e fetch.NoBatch = counted (codes "e") e (codes " works on no batch")
 fetch_sentence e (fetch.AllFetched count fetched closed) = fetched_words e fetched count ++ closed_words closed
 
--- the member that failed
+-- the member that failed, where its fate says which
 abbrev pub failed_words : Option ℕ → List ℕ
-failed_words None = codes "one"
+failed_words None = codes "a member"
 failed_words (Some name) = codes "member " ++ decimal name
 
 -- of the engine
@@ -199,6 +199,7 @@ done_sentence (done.SizeOutside size shift q) =
 done_sentence (done.CountOutside count shift q) =
     outside_limit_words (codes "count ") count 2 (codes ", the batch limit of q") shift q
 done_sentence (done.MembersFailed first status failed) = members_failed_words first status failed
+done_sentence done.FailureForgotten = codes "a member failed"
 done_sentence done.PageFault = codes "page fault"
 
 -- ---- entries that are gone

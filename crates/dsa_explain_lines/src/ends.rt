@@ -125,6 +125,7 @@ pub fn add_done_reason(text: &mut String, reason: &DoneReason) -> Added
             status,
             failed,
         } => add_members_failed(text, first, status, failed),
+        DoneReason::FailureForgotten => text.push_str("a member failed"),
         DoneReason::PageFault => text.push_str("page fault"),
     }
 }

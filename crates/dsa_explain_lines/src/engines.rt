@@ -44,13 +44,13 @@ pub fn add_fetch_reason(text: &mut String, engine: u16, reason: &FetchReason) ->
     }
 }
 
-// The member that failed.
+// The member that failed, where its fate says which.
 fn add_failed(text: &mut String, failed: Option<u32>) -> Added
     ensures { Adds result text.old text.new (failed_words failed) }
 {
     match failed {
         Some(name) => add_number(text, "member ", name),
-        None => text.push_str("one"),
+        None => text.push_str("a member"),
     }
 }
 

@@ -9,7 +9,7 @@ ghost use Rattle.dsa_engines.specs.Batch.{fetch_reason};
 ghost use Rattle.dsa_explain.specs.Done.{done_reason};
 ghost use Rattle.dsa_explain.specs.Held.{awaited_entry};
 ghost use Rattle.dsa_explain_lines.specs.Sentences.{clear_sentence, done_sentence, fetch_sentence, no_engine, poll_sentence, submit_sentence, write_sentence};
-ghost use Rattle.dsa_explain_lines.specs.Parts.{event_part, finish_part, issue_part, part_of, no_command_part, reserved_part, start_part, told_of};
+ghost use Rattle.dsa_explain_lines.specs.Parts.{event_part, finish_part, full_part, issue_part, names_part, no_command_part, part_of, reserved_part, start_part, told_of};
 
 use crate::commands::{add_issue_reason, add_poll_reason};
 use crate::dispatch::add_dispatch_part;
@@ -207,6 +207,26 @@ fn add_reserved(text: &mut String, reserved: u32) -> Added
     write!(text, ", with {reserved} in bits 30:25")
 }
 
+// That no more names were left, where that is why the history has no more room.
+fn add_names_left<S: EntryStore>(text: &mut String, device: &Device<S>) -> Added
+    ensures { Adds result text.old text.new (names_part device.now) }
+{
+    if device.capacity() < device.room() {
+        text.push_str(", as many as names were left")
+    } else {
+        Ok(())
+    }
+}
+
+// What is told of any event where the history is full.
+fn add_full<S: EntryStore>(text: &mut String, device: &Device<S>) -> Added
+    ensures { Adds result text.old text.new (full_part device.now) }
+{
+    let before = ": the history has room for ";
+    add_count(text, before, device.capacity(), "step", "steps")?;
+    add_names_left(text, device)
+}
+
 /// Adds why the device answers the event as it does, or why the word is refused.
 pub fn add_part<S: EntryStore>(text: &mut String, device: &Device<S>, asked: &Asked) -> Added
     ensures { Adds result text.old text.new (part_of device.now asked.now) }
@@ -219,8 +239,7 @@ pub fn add_part<S: EntryStore>(text: &mut String, device: &Device<S>, asked: &As
         }
     };
     if device.is_full() {
-        let before = ": the history has room for ";
-        return add_count(text, before, device.capacity(), "step", "steps");
+        return add_full(text, device);
     }
     add_event_part(text, device, event)
 }

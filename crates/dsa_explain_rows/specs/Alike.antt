@@ -1,14 +1,17 @@
 -- States with little in them, of which the laws of answers speak.
-use Rattle.std.specs.Prelude.{ℕ, false, List, [], ◌∷◌, None, Some, replicate, unwrap_or}
-use Rattle.dsa_regs.specs.declared.{Command.{Command}, Phase.{Phase}}
+use Rattle.std.specs.Prelude.{ℕ, false, List, [], ◌∷◌, ◌++◌, None, Some, replicate, unwrap_or}
+use Rattle.dsa_regs.specs.declared.{Command.{Command, TheVariants.{DrainAll}}, Phase.{Phase}}
 use Rattle.dsa_store.specs.Content.{Content}
-use Rattle.dsa_book.specs.{declared.event.Step.{Step}, Machine.{replay}, State.{Setup, State, opening, opening_setup}}
+use Rattle.dsa_book.specs.{declared.event.Step.{Step}, Machine.{replay, stored_steps, with_work}, State.{Setup, State, opening, opening_setup}}
+use Rattle.dsa_book.specs.declared.event.{Portal.TheVariants.{Limited}, Kind.TheVariants.{Enqcmd}}
+use Rattle.dsa_book.specs.declared.answer.{SubmitAnswer.TheVariants.{Accepted}, DispatchAnswer.TheVariants.{Taken}}
 use Rattle.dsa_book.specs.declared.answer.WriteAnswer.TheVariants.{Written}
 use Rattle.dsa_queues.specs.Queues.{Kept}
 use Rattle.dsa_admin.specs.Admin.{Watch}
-use Rattle.dsa_device.specs.Running.{Running}
-use Rattle.dsa_worked.specs.Setup.{no_op, held_entry, step_of_a_group_write}
-use Rattle.dsa_worked.specs.Uneven.{many_engines, many_queues, of_these}
+use Rattle.dsa_device.specs.Running.{Running, running_at_first}
+use Rattle.dsa_worked.specs.{Setup.{completed, no_op, held_entry, step_of_a_group_write}, Values.{three_lists}}
+use Rattle.dsa_worked.specs.Setup.{dispatched, ended, ticket, written}
+use Rattle.dsa_worked.specs.Uneven.{many_engines, many_queues, of_these, last_of_many_queues}
 
 -- a device of one queue with these entries, of which ten names were given
 abbrev pub holding : Content → State
@@ -55,10 +58,34 @@ second_write = step_of_a_group_write 1 (of_these 32 0) Written
 abbrev pub device_after : ℕ → List Step → Running
 device_after capacity steps = record {
   caps = many_queues;
+  room = capacity;
   capacity = capacity;
   history = steps;
+  anew = false;
   state = unwrap_or (replay many_queues steps) (opening many_queues);
 }
+
+-- a device of which so many names were given
+abbrev pub with_next_name : ℕ → Running
+with_next_name name =
+    let d = running_at_first many_queues 5 in
+    let setup = record d.state.work.setup { next_name = name } in
+    record d { state = with_work d.state (record d.state.work { setup = setup }) }
+
+-- a device where entries are held, one ended, and a command is active
+abbrev pub in_use : Running
+in_use = record (running_at_first many_queues 5) {
+  state = record {
+    work = record (holding three_lists).work { fates = completed 1 3 ∷ [] };
+    active = Some (record { command = DrainAll; mark = 9 });
+  };
+}
+
+-- the last of many queues, an entry of which ended
+abbrev pub one_ended : List Step
+one_ended =
+    stored_steps last_of_many_queues ++ written 6 Limited (Enqcmd 5) no_op (Accepted (ticket 0 0))
+    ∷ dispatched 0 (Taken (ticket 0 0) 6) ∷ ended 0 0 0 0x01 ∷ []
 
 -- what is kept of the queues while nothing is held
 abbrev pub none_counted : Kept

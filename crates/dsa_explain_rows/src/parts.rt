@@ -31,7 +31,7 @@ ghost use Rattle.dsa_regs.specs.declared.Deed.TheVariants.{Disable, Enable};
 ghost use Rattle.dsa_regs.specs.declared.reasons.CheckReason.TheVariants as check;
 ghost use Rattle.dsa_admin.specs.Command.{found_by_check};
 ghost use Rattle.dsa_scenario.specs.Worked.{bad_word};
-ghost use Rattle.dsa_explain_lines.specs.Parts.{dispatch_part, issue_part, joint, keeping_part, lists_part, part_of, queue_part, room_part, start_part, told_of, word_part};
+ghost use Rattle.dsa_explain_lines.specs.Parts.{dispatch_part, full_part, issue_part, joint, keeping_part, lists_part, names_part, part_of, queue_part, room_part, start_part, told_of, word_part};
 ghost use Rattle.dsa_explain_rows.specs.After.{of_three_groups, of_two_queues, told_after, told_from_first, with_few_buffers};
 ghost use Rattle.dsa_explain_rows.specs.Histories.{batch_of_the_second_group, two_members_fail};
 ghost use Rattle.dsa_explain_rows.specs.Parts.{setup_of, told, told_at_end, idle_with_two_queues};
@@ -291,6 +291,11 @@ pub fn of_any()
     ensures room_for_one { room_part 1 ≡ codes ": the history has room for 1 step" }
     ensures full { part_of (running_at_first caps 0) (Ok event.Poll)
         ≡ codes ": the history has room for 0 steps" }
+    ensures no_names { part_of (record (running_at_first caps 9) { capacity = 0 }) (Ok event.Poll)
+        ≡ codes ": the history has room for 0 steps, as many as names were left" }
+    ensures last_name { full_part (record (running_at_first caps 9) { capacity = 1 })
+        ≡ codes ": the history has room for 1 step, as many as names were left" }
+    ensures names_for_all { names_part (running_at_first caps 9) ≡ [] }
     ensures poll { part_of (running_at_first caps 1) (Ok event.Poll)
         ≡ codes ": no command is active" }
     ensures word { part_of (running_at_first caps 1) (Err (bad_word 0x1f00005))

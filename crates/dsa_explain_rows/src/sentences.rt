@@ -88,7 +88,7 @@ pub fn starts()
     ensures one_left { start_sentence 0 (start.Failed 3 (Some 1) 1)
         ≡ codes "member 3 has a fence, member 1 before it failed, and 1 ends unstarted" }
     ensures one_failed { start_sentence 0 (start.Failed 3 None 2)
-        ≡ codes "member 3 has a fence, one before it failed, and 2 end unstarted" }
+        ≡ codes "member 3 has a fence, a member before it failed, and 2 end unstarted" }
     ensures buffers { start_sentence 0 (start.NoBuffers some_want)
         ≡ codes "the member needs 4 read buffers, group 3 uses 8 of 10, all groups use 12 of 16, and 6 are kept" }
     ensures no_group { start_sentence 5 start.NoGroup ≡ codes "e5 is of no group" }
@@ -140,6 +140,7 @@ pub fn failures()
     ensures member { done_sentence (done.MembersFailed 6 0x13 1) ≡ codes "member 6 ended with 13" }
     ensures members { done_sentence (done.MembersFailed 6 0x03 2)
         ≡ codes "member 6 ended with 03, the first of 2" }
+    ensures forgotten { done_sentence done.FailureForgotten ≡ codes "a member failed" }
     ensures digits { map status_digits (0x0f ∷ 0x10 ∷ []) ≡ codes "0f" ∷ codes "10" ∷ [] }
     ensures fault { done_sentence done.PageFault ≡ codes "page fault" }
 {}

@@ -20,7 +20,7 @@ ghost use Rattle.dsa_engines.specs.declared.reasons.FinishReason.TheVariants.{El
 ghost use Rattle.dsa_engines.specs.declared.reasons.QueueReason.TheVariants as queue;
 ghost use Rattle.dsa_engines.specs.declared.reasons.StartReason.TheVariants as start;
 ghost use Rattle.dsa_laws.specs.Refusals.{refusal_by};
-ghost use Rattle.dsa_explain.specs.Done.{members_failed, status_of_fate, status_reason};
+ghost use Rattle.dsa_explain.specs.Done.{failure_of, members_failed, status_of_fate, status_reason};
 ghost use Rattle.dsa_explain.specs.declared.done.DoneReason.TheVariants as done;
 ghost use Rattle.dsa_explain_lines.specs.Parts.{event_part, queue_keeping, start_keeping};
 ghost use Rattle.dsa_explain_lines.specs.Sentences.{check_sentence, fetched_words};
@@ -62,7 +62,9 @@ pub fn statuses()
     ensures fence { status_reason with_failures batch_seven 0x11 ≡ Some done.FenceOutside }
     ensures size { status_reason with_failures batch_seven 0x13 ≡ Some (done.SizeOutside 9 3 2) }
     ensures count { status_reason with_failures batch_seven 0x14 ≡ Some (done.CountOutside 9 1 2) }
-    ensures none_failed { members_failed with_failures 5 ≡ done.MembersFailed 0 0 0 }
+    ensures forgotten { members_failed with_failures 5 ≡ done.FailureForgotten }
+    ensures failed { failure_of 4 (Some (row 8 (Some 7) (Completed 0x13)))
+        ≡ done.MembersFailed 8 0x13 4 }
     ensures unended { map status_of_fate (Aborted 4 ∷ Abandoned ∷ []) ≡ 0 ∷ 0 ∷ [] }
 {}
 

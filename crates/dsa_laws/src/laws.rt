@@ -1,7 +1,7 @@
 //! The laws, each on a function with nothing to do. A history is a list of steps from the opening
 //! of a device with these capabilities.
 
-ghost use Rattle.std.specs.Prelude.{◌≡◌, ℕ, ◌+◌, ◌<◌, ◌≤◌, List, ◌∷◌, ◌++◌, false};
+ghost use Rattle.std.specs.Prelude.{◌≡◌, ℕ, ◌+◌, ◌<◌, ◌≤◌, List, ◌∷◌, ◌++◌, false, option_map};
 ghost use Rattle.dsa_desc.specs.declared.Descriptor.{Descriptor};
 ghost use Rattle.dsa_regs.specs.declared.Caps.{Caps};
 ghost use Rattle.dsa_regs.specs.declared.Phase.TheVariants.{Off};
@@ -15,8 +15,10 @@ ghost use Rattle.dsa_book.specs.declared.answer.Reply.{Reply};
 ghost use Rattle.dsa_book.specs.declared.answer.Reply.TheVariants as reply;
 ghost use Rattle.dsa_book.specs.declared.answer.SubmitAnswer.{SubmitAnswer};
 ghost use Rattle.dsa_book.specs.State.{State};
-ghost use Rattle.dsa_book.specs.Machine.{is_stored, LeadsTo, Reaches};
+ghost use Rattle.dsa_book.specs.declared.fate.FateRow.{FateRow};
+ghost use Rattle.dsa_book.specs.Machine.{is_stored, next, LeadsTo, Reaches};
 ghost use Rattle.dsa_laws.specs.Change.{Change};
+ghost use Rattle.dsa_laws.specs.Forgotten.{with_past_fates};
 ghost use Rattle.dsa_laws.specs.Refusals.{HasItsCause, EachHasItsCause};
 ghost use Rattle.dsa_laws.specs.WellFormed.{IsWellFormed, IsWithinLimits, held_named, fates_named};
 ghost use Rattle.dsa_laws.specs.Engines.{HasLawfulEngines};
@@ -42,6 +44,14 @@ pub fn unstored_steps_change_nothing()
         → LeadsTo s event reply s'
         → is_stored reply ≡ false
         → s' ≡ s }
+{}
+
+/// No step looks at a fate: with other fates of long ago the same replies may come, and lead to the
+/// same state but for these fates.
+pub fn steps_look_at_no_fates()
+    ensures { (past : List FateRow) (s : State) (event : Event) (reply : Reply)
+        → next (with_past_fates past s) event reply
+        ≡ option_map (with_past_fates past) (next s event reply) }
 {}
 
 /// Each step of a history is one that may come in the state that the steps before it lead to.

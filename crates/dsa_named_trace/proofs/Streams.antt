@@ -94,39 +94,44 @@ stopped_whole contents form objects first now caps capacity actions last tickets
     (subst (λ a. IsWalkTo (IsTakenFrom form objects (HasTakenNamed contents form first now)) caps capacity a
     (length actions) last tickets page) (sym (take_all (length actions) actions (omega arith))) h)
 
--- the device is opened by the head of the bytes, and the walk stopped where lines were taken
+-- the device is opened by the head of the bytes, and the text has lines of the first steps of a walk that stopped
+lines_of_walk : (is_so : List Visit → Type 0) (form : Trace) (bytes : List ℕ) (caps : Caps) (capacity : ℕ)
+    (objects : List Data) (all : List Action) (text : List ℕ) → IsOpened bytes caps capacity objects all
+    → (h : IsStoppedAt is_so caps capacity all)
+    → with_names objects (AreFirstNamedLines form) (visits caps capacity [] h.walk.records) h.now text
+    → AreNamedLinesOfStart form bytes text
+lines_of_walk is_so form bytes caps capacity objects all text opening h so =
+    let are_lines = with_names objects (AreFirstNamedLines form) in
+    record {
+      caps = caps;
+      capacity = capacity;
+      objects = objects;
+      actions = all;
+      count = h.count;
+      head = opening.head;
+      asked = opening.asked;
+      opening = opening.opening;
+      of_run = text_of_run (λ made (_ : ⊤). are_lines made h.now text) are_lines caps capacity (take h.count all)
+          h.count h.now h.tickets tt text
+          (with_page (λ made (_ : ⊤). is_so made) (λ made (_ : ⊤). are_lines made h.now text) caps capacity
+          (take h.count all) h.count h.now h.tickets tt tt h.walk so)
+          (λ made is. is);
+    }
+
+-- so where lines were taken
 pub lines_of_stop : {W : Type 0} (contents : W → Option (List ℕ)) (form : Trace) (first now : WatchedWriter W)
     (bytes : List ℕ) (caps : Caps) (capacity : ℕ) (objects : List Data) (all : List Action)
     → IsOpened bytes caps capacity objects all
     → IsStoppedAt (HasTakenFirst contents form objects first now) caps capacity all
     → IsTextAdded (AreNamedLinesOfStart form bytes) (watched_contents contents first) (watched_contents contents now)
 lines_of_stop contents form first now bytes caps capacity objects all opening h =
-    let steps = visits caps capacity [] h.walk.records in
-    let taken = h.walk.made.0 in
-    let text = flat_map (named_trace_line form) taken in
-    let so : with_names objects (AreFirstNamedLines form) steps h.now text = (
-      length taken,
-      ap (flat_map (named_trace_line form))
-          (sym (ap (take (length taken)) h.walk.made.2 ∙ take-append_seam taken h.walk.made.1)),
-    ) in (
-      text,
-      record {
-        caps = caps;
-        capacity = capacity;
-        objects = objects;
-        actions = all;
-        count = h.count;
-        head = opening.head;
-        asked = opening.asked;
-        opening = opening.opening;
-        of_run = text_of_run (λ made (_ : ⊤). with_names objects (AreFirstNamedLines form) made h.now text)
-            (with_names objects (AreFirstNamedLines form)) caps capacity (take h.count all) h.count h.now h.tickets tt
-            text
-            (with_page (λ made (_ : ⊤). HasTakenFirst contents form objects first now made)
-            (λ made (_ : ⊤). with_names objects (AreFirstNamedLines form) made h.now text) caps capacity
-            (take h.count all) h.count h.now h.tickets tt tt h.walk so)
-            (λ made is. is);
-      },
+    let taken = h.walk.made.0 in (
+      flat_map (named_trace_line form) taken,
+      lines_of_walk (HasTakenFirst contents form objects first now) form bytes caps capacity objects all _ opening h (
+        length taken,
+        ap (flat_map (named_trace_line form))
+            (sym (ap (take (length taken)) h.walk.made.2 ∙ take-append_seam taken h.walk.made.1)),
+      ),
       h.walk.made.3.lines,
     )
 
@@ -137,29 +142,10 @@ pub cut_of_stop : {W : Type 0} (contents : W → Option (List ℕ)) (form : Trac
     → IsStoppedAt (HasRefusedNamed contents form objects first now) caps capacity all
     → IsTextCut (AreNamedLinesOfStart form bytes) (watched_contents contents first) (watched_contents contents now)
 cut_of_stop contents form first now bytes caps capacity objects all opening h =
-    let steps = visits caps capacity [] h.walk.records in
-    let named = named_visits objects [] steps in
-    let text = flat_map (named_trace_line form) named in
-    let so : with_names objects (AreFirstNamedLines form) steps h.now text =
-    (length named, ap (flat_map (named_trace_line form)) (sym (take_all (length named) named (omega arith)))) in (
-      text,
-      record {
-        caps = caps;
-        capacity = capacity;
-        objects = objects;
-        actions = all;
-        count = h.count;
-        head = opening.head;
-        asked = opening.asked;
-        opening = opening.opening;
-        of_run = text_of_run (λ made (_ : ⊤). with_names objects (AreFirstNamedLines form) made h.now text)
-            (with_names objects (AreFirstNamedLines form)) caps capacity (take h.count all) h.count h.now h.tickets tt
-            text
-            (with_page (λ made (_ : ⊤). HasRefusedNamed contents form objects first now made)
-            (λ made (_ : ⊤). with_names objects (AreFirstNamedLines form) made h.now text) caps capacity
-            (take h.count all) h.count h.now h.tickets tt tt h.walk so)
-            (λ made is. is);
-      },
+    let named = named_visits objects [] (visits caps capacity [] h.walk.records) in (
+      flat_map (named_trace_line form) named,
+      lines_of_walk (HasRefusedNamed contents form objects first now) form bytes caps capacity objects all _ opening h
+          (length named, ap (flat_map (named_trace_line form)) (sym (take_all (length named) named (omega arith)))),
       h.walk.made.lines,
     )
 

@@ -73,6 +73,20 @@ pub header-length : (caps : Caps) (capacity count : ℕ) → length (header_byte
 unfolding header_bytes
 header-length caps capacity count = length-bytes (header_words caps capacity count)
 
+pub saved-length : (d : Running) → length (saved_bytes d) ≡ 84 + 44 * length d.history
+unfolding saved_bytes saved_body
+saved-length d =
+    let header = header_bytes d.caps d.capacity (length d.history) in
+    let records = flat_map record_of d.history in
+    omega (
+      arith,
+      length-append (saved_body d) (sha256 (saved_body d)),
+      length-sha256 (saved_body d),
+      length-append header records,
+      header-length d.caps d.capacity (length d.history),
+      records-length d.history,
+    )
+
 -- ---- what the records say
 
 -- what is said of a step: its event, and what was free in it
@@ -188,4 +202,13 @@ saved-same d e rd re ad ae same =
     let steps = history-same (opening d.caps) d.state e.state d.history e.history
     (steps-same d.history e.history ad.steps ae.steps starts.1) rd.replayed
     (rw caps re.replayed) in
-    λ i. record { caps = caps i; capacity = capacity i; history = steps.0 i; state = steps.1 i }
+    let room : d.room ≡ e.room = ad.room ∙ capacity ∙ sym ae.room in
+    let anew : d.anew ≡ e.anew = ad.not_anew ∙ sym ae.not_anew in
+    λ i. record {
+      caps = caps i;
+      room = room i;
+      capacity = capacity i;
+      history = steps.0 i;
+      anew = anew i;
+      state = steps.1 i;
+    }

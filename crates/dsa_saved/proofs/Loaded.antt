@@ -53,4 +53,6 @@ module _ (t : Running) (caps : Caps) (capacity count : ℕ) (records : List ℕ)
     words = ap (words_of 11) (same-header ∙ sym is) ∙ words ∙ sym same-words;
     caps = ap caps_of_words same-words ∙ read ∙ sym have.caps;
     steps = rw have.history have.read;
+    not_anew = have.anew;
+    room = have.room ∙ sym have.capacity;
   }

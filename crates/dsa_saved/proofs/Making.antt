@@ -27,6 +27,8 @@ made d t e r bytes first last choice after kept says is free read same whole =
       };
       caps = g.caps;
       capacity = g.capacity;
+      room = g.room;
+      anew = g.anew;
     }
 
 -- no record
@@ -38,6 +40,8 @@ none-made d = record {
   read = λ k step within. absurd (omega (arith, within));
   caps = refl;
   capacity = refl;
+  room = refl;
+  anew = refl;
 }
 
 -- one record more
@@ -52,6 +56,8 @@ one-more d t u bytes more all have has is = record {
   read = All-push IsStepRead have.steps has.step have.read has.read;
   caps = has.caps ∙ have.caps;
   capacity = has.capacity ∙ have.capacity;
+  room = has.room ∙ have.room;
+  anew = has.anew ∙ have.anew;
 }
 
 -- the next record behind those that were read

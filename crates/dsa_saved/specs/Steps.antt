@@ -13,6 +13,8 @@ pub record HasMade (said : List ℕ) (old new : Running) : Type 0 where
   pub read : IsStepRead step
   pub caps : new.caps ≡ old.caps
   pub capacity : new.capacity ≡ old.capacity
+  pub room : new.room ≡ old.room
+  pub anew : new.anew ≡ old.anew
 
 -- so many steps more are: those of these records
 pub record HaveMade (said : List ℕ) (old new : Running) : Type 0 where
@@ -22,3 +24,5 @@ pub record HaveMade (said : List ℕ) (old new : Running) : Type 0 where
   pub read : All IsStepRead steps
   pub caps : new.caps ≡ old.caps
   pub capacity : new.capacity ≡ old.capacity
+  pub room : new.room ≡ old.room
+  pub anew : new.anew ≡ old.anew

@@ -1,6 +1,15 @@
-//! Why bytes are no saved device.
+//! Why a device has no bytes, and why bytes are no saved device.
 
 use thiserror::Error;
+
+/// Why a device was not saved: the first of these that stands.
+#[derive(Clone, Copy, Debug, PartialEq, Eq, Error)]
+pub enum SaveFault {
+    #[error("the history of the device began anew")]
+    BegunAnew,
+    #[error("out of memory")]
+    OutOfMemory,
+}
 
 /// Why no device was made of bytes: the first cause that stands, in this order (profile). Records
 /// are numbered from 0.

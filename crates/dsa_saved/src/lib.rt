@@ -2,7 +2,8 @@
 //!
 //! [`save`] writes what a device has, for how many steps its history has room, and for each stored
 //! step its event and what was free in it: the cell of an entry that came in, or the queue that an
-//! entry was taken from. [`load`] makes these steps again.
+//! entry was taken from. [`load`] makes these steps again. So a device is saved only where its
+//! history did not begin anew.
 #![tactic(auto)]
 
 mod choices;
@@ -18,6 +19,6 @@ mod start;
 mod tests;
 mod words;
 
-pub use faults::LoadFault;
+pub use faults::{LoadFault, SaveFault};
 pub use loading::load;
-pub use saving::save;
+pub use saving::{save, saved_size};

@@ -1,6 +1,6 @@
 //! A device from bytes.
 
-ghost use Rattle.std.specs.Prelude.{◌≡◌, OnOk, IfOk, IfErr};
+ghost use Rattle.std.specs.Prelude.{◌≡◌, false, OnOk, IfOk, IfErr};
 ghost use Rattle.dsa_device.specs.Running.{Running, IsReplay};
 ghost use Rattle.dsa_saved.specs.Faults.{HasStart, IsLoadFault, records_in, first_in};
 ghost use Rattle.dsa_saved.specs.Steps.{HaveMade};
@@ -29,20 +29,23 @@ fn make_steps<S: EntryStore>(device: &mut Device<S>, bytes: &[u8]) -> Result<(),
     made
 }
 
-/// The device that the bytes save: it is opened, and makes the step of each record in turn. So it
-/// saves to these bytes, and equals each device that does. Else the fault is the first that
-/// stands.
+/// The device that the bytes save: it is opened, and makes the step of each record in turn. So its
+/// history did not begin anew, it saves to these bytes, and equals each device that does. Else the
+/// fault is the first that stands.
 ///
 /// A store may choose another cell for an entry than that of the device that was saved; then the
 /// fault is `BadStep`. Over linked cells a device that was saved makes its steps again (tested).
 pub fn load(alloc: Global, bytes: &[u8]) -> Result<LinkedDevice, LoadFault>
     ensures saved { IfOk result (λ machine. saved_bytes machine.device ≡ bytes.now) }
+    ensures not_anew { IfOk result (λ machine. machine.device.anew ≡ false) }
+    ensures room { IfOk result (λ machine. machine.device.room ≡ machine.device.capacity) }
     ensures equal { IfOk result (λ machine. (d : Running)
         → IsReplay d
         → IsReadAgain d
         → saved_bytes d ≡ bytes.now
         → machine.device ≡ d) }
     ensures fault { IfErr result (λ fault. IsLoadFault fault bytes.now) }
+    ensures start { OnOk result (HasStart bytes.now) }
 {
     if let Some(fault) = start_fault(bytes) {
         return Err(fault);

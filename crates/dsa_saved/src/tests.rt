@@ -1,7 +1,7 @@
 //! A device over linked cells, saved and loaded.
 
-use crate::{LoadFault, load, save};
-use dsa_book::{DispatchAnswer, Event, Portal};
+use crate::{LoadFault, SaveFault, load, save};
+use dsa_book::{DispatchAnswer, Event, PastFates, Portal};
 use dsa_desc::Outcome;
 use dsa_fixtures::{CAPS, ENABLED, ENQCMD, MOVE};
 use dsa_linked::LinkedDevice;
@@ -57,6 +57,24 @@ fn a_device_is_loaded_as_it_was_saved(rt: HostRuntime) {
         Ok(loaded) => assert!(rt; loaded.device.history() == machine.device.history()),
         Err(_) => panic!(&rt; "the device was not loaded"),
     }
+}
+
+// A device whose history begins anew is not saved, neither before its next steps nor after them.
+fn is_not_saved(rt: &impl Abort, alloc: Global, past: PastFates) {
+    let mut machine = opened(rt, alloc);
+    enable(&mut machine);
+    if machine.device.begin_anew(past).is_err() {
+        panic!(rt; "there was no memory");
+    }
+    assert!(rt; matches!(save(alloc, &machine.device), Err(SaveFault::BegunAnew)));
+    work(&mut machine);
+    assert!(rt; matches!(save(alloc, &machine.device), Err(SaveFault::BegunAnew)));
+}
+
+#[test]
+fn a_device_that_began_anew_is_not_saved(rt: HostRuntime) {
+    is_not_saved(&rt, rt.alloc(), PastFates::Kept);
+    is_not_saved(&rt, rt.alloc(), PastFates::Forgotten);
 }
 
 #[test]

@@ -10,7 +10,7 @@ use Rattle.dsa_book.specs.Machine.{is_run_after, stored_steps}
 use Rattle.dsa_book.proofs.Gains.{named_by}
 use Rattle.dsa_accounts.proofs.Totals.{name_of}
 use Rattle.dsa_device.specs.{Running.{Running, running_at_first, IsReplay}, Runs.{IsRunOf}}
-use Rattle.dsa_device.proofs.{Runs.{IsRunOf-push}, Steps.{answered-replay}}
+use Rattle.dsa_device.proofs.{Runs.{IsRunOf-push}, Steps.{answered-replay, grows}}
 use Rattle.dsa_scenario.specs.declared.{actions.Action.{Action}, run.Record.{Record, TheVariants.{Stepped, Refused}}}
 use Rattle.dsa_scenario.specs.Run.{given_by_reply, ticket_given_by, event_of, answered_by, AreOf, step_of}
 use Rattle.dsa_scenario.specs.Run.{steps_of_records, Leads}
@@ -45,12 +45,14 @@ gives now new (Refused fault) same = (tt, rw (same, add-zero) refl)
 -- the device has answered as its history says, and goes on to
 pub record Goes (first now : Running) (records : List Record) : Type 0 where
   pub run : IsRunOf first (map (λ step. step.event) (steps_of_records records)) [] (steps_of_records records) now
+  pub room : now.room ≡ first.room
+  pub anew : now.anew ≡ first.anew
   pub replay : IsReplay now
 
 -- as one has whose history is that of a run
 pub goes_by : (first now : Running) (records : List Record)
     → is_run_after first.caps first.capacity first.history (steps_of_records records) ≡ true
-    → (now.caps ≡ first.caps) × (now.capacity ≡ first.capacity)
+    → (now.caps ≡ first.caps) × (now.capacity ≡ first.capacity) × (now.room ≡ first.room) × (now.anew ≡ first.anew)
     → now.history ≡ first.history ++ stored_steps (steps_of_records records) → IsReplay now → Goes first now records
 goes_by first now records allowed same history replay = record {
   run = record {
@@ -63,6 +65,8 @@ goes_by first now records allowed same history replay = record {
     history = history;
     replayed = rw same.0 at replay.replayed;
   };
+  room = same.2;
+  anew = same.3;
   replay = replay;
 }
 
@@ -70,15 +74,23 @@ goes_by first now records allowed same history replay = record {
 pub goes_nowhere : (caps : Caps) (capacity : ℕ) → IsReplay (running_at_first caps capacity)
     → Goes (running_at_first caps capacity) (running_at_first caps capacity) []
 goes_nowhere caps capacity = goes_by (running_at_first caps capacity) (running_at_first caps capacity) [] refl
-    (refl, refl) refl
+    (refl, refl, refl, refl) refl
 
 -- with one record more
 pub goes_on : (first now new : Running) (records : List Record) (entry : Record) → Goes first now records
     → Leads now entry new → Goes first new (records ++ entry ∷ [])
-goes_on first now new records (Stepped step) h leads = record {
-  run = IsRunOf-push _ _ _ _ _ _ _ _ _ _ h.replay h.run leads
-      (rw (filter_map-append, map-append)) (filter_map-append step_of records (Stepped step ∷ []));
-  replay = answered-replay now new step.event step.reply h.replay leads;
+goes_on first now new records (Stepped step) h leads =
+    let g = grows now new step.event step.reply leads in
+    record {
+      run = IsRunOf-push _ _ _ _ _ _ _ _ _ _ h.replay h.run leads
+          (rw (filter_map-append, map-append)) (filter_map-append step_of records (Stepped step ∷ []));
+      room = g.room ∙ h.room;
+      anew = g.anew ∙ h.anew;
+      replay = answered-replay now new step.event step.reply h.replay leads;
+    }
+goes_on first now new records (Refused fault) h same = record {
+  run = rw (filter_map-append, append-nil, same) h.run;
+  room = rw same h.room;
+  anew = rw same h.anew;
+  replay = rw same h.replay;
 }
-goes_on first now new records (Refused fault) h same =
-    record { run = rw (filter_map-append, append-nil, same) h.run; replay = rw same h.replay }

@@ -50,6 +50,8 @@ with_page is_page is_other caps capacity actions number now tickets page other h
   of_actions = h.of_actions;
   count = h.count;
   run = h.run;
+  room = h.room;
+  not_anew = h.not_anew;
   replay = h.replay;
   table = h.table;
   in_turn = h.in_turn;

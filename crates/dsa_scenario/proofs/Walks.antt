@@ -1,16 +1,16 @@
 -- One step more of a walk, and its end.
-use Rattle.std.proofs.Common.{◌≡◌, ℕ, List, [], ◌∷◌, ◌++◌, Result, refl, ap, ◌∙◌, sym, ◌+◌, length, map, arith, subst}
+use Rattle.std.proofs.Common.{◌≡◌, ℕ, List, [], ◌∷◌, ◌++◌, Result, false, refl, ap, ◌∙◌, sym, ◌+◌, length, map, arith, subst}
 use Rattle.std.proofs.Common.{append_assoc, append-nil, filter_map, length-append}
 use Rattle.std.specs.Prelude.{slice_get, suc}
 use Rattle.dsa_regs.specs.declared.Caps.{Caps}
 use Rattle.dsa_book.specs.declared.{answer.Ticket.{Ticket}, event.Event.{Event}}
 use Rattle.dsa_book.specs.{Machine.{stored_steps}}
-use Rattle.dsa_device.specs.{Running.{Running, running_at_first, IsReplay}, Runs.{IsRunOf}}
+use Rattle.dsa_device.specs.Running.{Running, running_at_first, IsReplay}
 use Rattle.dsa_scenario.specs.declared.actions.BadWord.{BadWord}
 use Rattle.dsa_scenario.specs.declared.{actions.Action.{Action}, run.Record.{Record}}
 use Rattle.dsa_scenario.specs.Run.{ticket_given_by, event_of, answered_by, steps_of_records, AreOf, Leads, IsTable}
 use Rattle.dsa_scenario.specs.Steps.{standing, Visit, visit, visits, IsAtFirst, IsWalkTo, IsTextOfRun}
-use Rattle.dsa_scenario.proofs.{Records.{AreOf-push, gives, goes_nowhere, goes_on}, Tickets.{IsTable-noted}}
+use Rattle.dsa_scenario.proofs.{Records.{AreOf-push, gives, Goes, goes_nowhere, goes_on}, Tickets.{IsTable-noted}}
 
 -- the step of a record behind those before
 abbrev visit_behind : Caps → ℕ → List Record → Record → Visit
@@ -31,13 +31,30 @@ visits-push caps capacity before (r ∷ records) entry =
 
 -- a device that has come by these records stands as they say
 pub stands : (caps : Caps) (capacity : ℕ) (records : List Record) (now : Running)
-    → IsRunOf (running_at_first caps capacity) (map (λ step. step.event) (steps_of_records records)) []
-    (steps_of_records records) now
-    → standing caps capacity records ≡ now
-stands caps capacity records now run =
+    → Goes (running_at_first caps capacity) now records → standing caps capacity records ≡ now
+stands caps capacity records now h =
+    let run = h.run in
     let history : now.history ≡ stored_steps (steps_of_records records) = rw run.added run.history in
     let replayed = rw history at run.replayed in
-    rw (replayed, ← history, ← run.same_caps, ← run.same_capacity) refl
+    let parts : standing caps capacity records ≡ record now { room = capacity; anew = false } =
+    rw (replayed, ← history, ← run.same_caps, ← run.same_capacity) refl in
+    let same : record now { room = capacity; anew = false } ≡ now = rw (← h.room, ← h.anew) refl in
+    parts ∙ same
+
+-- a walk goes by its records
+pub walk_goes : {Page : Type 0} (is_page : List Visit → Page → Type 0) (caps : Caps) (capacity : ℕ) (actions : List Action)
+    (number : ℕ) (now : Running) (tickets : List Ticket) (page : Page)
+    (h : IsWalkTo is_page caps capacity actions number now tickets page)
+    → Goes (running_at_first caps capacity) now h.records
+walk_goes is_page caps capacity actions number now tickets page h =
+    record { run = h.run; room = h.room; anew = h.not_anew; replay = h.replay }
+
+-- and its device stands as they say
+pub walk_stands : {Page : Type 0} (is_page : List Visit → Page → Type 0) (caps : Caps) (capacity : ℕ)
+    (actions : List Action) (number : ℕ) (now : Running) (tickets : List Ticket) (page : Page)
+    (h : IsWalkTo is_page caps capacity actions number now tickets page) → standing caps capacity h.records ≡ now
+walk_stands is_page caps capacity actions number now tickets page h =
+    stands caps capacity h.records now (walk_goes is_page caps capacity actions number now tickets page h)
 
 -- a walk with one action more, its ticket and its step
 pub one_more : {Page : Type 0} (is_page : List Visit → Page → Type 0) (told_before : Running → Result Event BadWord → List ℕ)
@@ -54,10 +71,9 @@ one_more is_page told_before caps capacity now new actions a number tickets more
     answers leads noted tells adds h =
     let named = gives now new entry leads in
     let on = goes_on (running_at_first caps capacity) now new h.records entry
-    (record { run = h.run; replay = h.replay }) leads in
-    let before : standing caps capacity h.records ≡ now = stands caps capacity h.records now h.run in
-    let after : standing caps capacity (h.records ++ entry ∷ []) ≡ new =
-    stands caps capacity (h.records ++ entry ∷ []) new on.run in
+    (walk_goes is_page caps capacity actions number now tickets page h) leads in
+    let before = walk_stands is_page caps capacity actions number now tickets page h in
+    let after = stands caps capacity (h.records ++ entry ∷ []) new on in
     let here : visit_behind caps capacity h.records entry ≡ visit number now entry new =
     rw (before, after, h.count) refl in
     let steps = visits caps capacity [] h.records in
@@ -70,6 +86,8 @@ one_more is_page told_before caps capacity now new actions a number tickets more
       of_actions = AreOf-push [] actions h.records a entry h.of_actions (answers ∙ asks h.records h.table);
       count = length-append h.records (entry ∷ []) ∙ ap (λ n. n + 1) h.count;
       run = on.run;
+      room = on.room;
+      not_anew = on.anew;
       replay = on.replay;
       table = IsTable-noted tickets more h.records entry h.table (rw h.in_turn named.0) noted;
       in_turn = ap length noted ∙ length-append tickets (filter_map ticket_given_by (entry ∷ []))
@@ -88,6 +106,8 @@ opened is_page caps capacity now tickets page first blank =
       of_actions = tt;
       count = refl;
       run = (goes_nowhere caps capacity replay).run;
+      room = refl;
+      not_anew = refl;
       replay = replay;
       table = λ name. refl;
       in_turn = refl;
@@ -132,6 +152,6 @@ text_of_run is_page is_text caps capacity actions number now tickets page text h
       of_actions = h.of_actions;
       run = rw h.run.added h.run.allowed;
       replayed = rw h.run.added (rw h.run.history at h.run.replayed);
-      rendered = subst (λ d. is_text steps d text) (sym (stands caps capacity h.records now h.run))
-          (ends steps h.made);
+      rendered = subst (λ d. is_text steps d text)
+          (sym (walk_stands is_page caps capacity actions number now tickets page h)) (ends steps h.made);
     }

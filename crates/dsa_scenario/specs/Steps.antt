@@ -1,5 +1,5 @@
 -- What is made of a run, step by step.
-use Rattle.std.specs.Prelude.{◌≡◌, ℕ, true, List, [], ◌∷◌, ◌++◌, length, map, slice_get, unwrap_or}
+use Rattle.std.specs.Prelude.{◌≡◌, ℕ, true, false, List, [], ◌∷◌, ◌++◌, length, map, slice_get, unwrap_or}
 use Rattle.std.specs.Prelude.{Some, flat_map}
 use Rattle.dsa_regs.specs.declared.Caps.{Caps}
 use Rattle.dsa_book.specs.declared.answer.Ticket.{Ticket}
@@ -15,8 +15,10 @@ standing caps capacity records =
     let history = stored_steps (steps_of_records records) in
     record {
       caps = caps;
+      room = capacity;
       capacity = capacity;
       history = history;
+      anew = false;
       state = unwrap_or (replay caps history) (opening caps);
     }
 
@@ -52,6 +54,8 @@ pub record IsWalkTo {Page : Type 0} (is_page : List Visit → Page → Type 0) (
   pub count : length records ≡ number
   pub run : IsRunOf (running_at_first caps capacity) (map (λ step. step.event) (steps_of_records records)) []
       (steps_of_records records) now
+  pub room : now.room ≡ capacity
+  pub not_anew : now.anew ≡ false
   pub replay : IsReplay now
   pub table : IsTable (slice_get tickets) records
   pub in_turn : length tickets ≡ now.state.work.setup.next_name

@@ -492,8 +492,9 @@ pub fn steps_of_a_run()
         (codes "refused 13 BadCommand\naccepted 3\nfate 1 - abandoned\nfate 0 - completed 01\n") }
 {}
 
-/// A walk, and what is none: other actions, another number, another device, one that cannot be, a
-/// ticket of another name, and another page.
+/// A walk, and what is none: other actions, another number, another device, one with memory for
+/// fewer steps, one that began anew, one that cannot be, a ticket of another name, and another
+/// page.
 pub fn walks()
     ensures walk { IsWalkTo {Page = ℕ} (λ steps page. page ≡ length steps) caps_of_a_run 7
         actions_of_a_submission 6 (standing caps_of_a_run 7 records_of_a_submission)
@@ -504,6 +505,10 @@ pub fn walks()
         (running_at_first smallest_caps 9) [] 0 }
     ensures another_device { ¬ IsWalkTo {Page = ℕ} (λ steps page. ⊤) smallest_caps 9 [] 0
         (running_at_first smallest_caps 8) [] 0 }
+    ensures another_room { ¬ IsWalkTo {Page = ℕ} (λ steps page. ⊤) smallest_caps 9 [] 0
+        (record (running_at_first smallest_caps 9) { room = 8 }) [] 0 }
+    ensures anew { ¬ IsWalkTo {Page = ℕ} (λ steps page. ⊤) smallest_caps 9 [] 0
+        (record (running_at_first smallest_caps 9) { anew = true }) [] 0 }
     ensures no_device { ¬ IsWalkTo {Page = ℕ} (λ steps page. ⊤) no_caps 9 [] 0
         (running_at_first no_caps 9) [] 0 }
     ensures another_name { ¬ IsWalkTo {Page = ℕ} (λ steps page. ⊤) caps_of_a_run 7

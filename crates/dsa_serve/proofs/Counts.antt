@@ -2,7 +2,8 @@
 use Rattle.std.proofs.Common.{◌≡◌, ◌≢◌, ◌⊎◌, ◌+◌, ℕ, Bool, List, ◌++◌, Option, Result, Ok, Err, IfErr, arith}
 use Rattle.std.proofs.Common.{length-append, inl, inr, refl, ap, ◌∙◌}
 use Rattle.dsa_scenario.specs.declared.counted.CountedReader.{CountedReader}
-use Rattle.dsa_scenario.specs.declared.faults.ScenarioFault.{ScenarioFault, TheVariants.{Read, TooLong, Write}}
+use Rattle.dsa_scenario.specs.declared.faults.ScenarioFault.{ScenarioFault}
+use Rattle.dsa_scenario.specs.declared.faults.ScenarioFault.{TheVariants.{Read, TooLong, Write}}
 use Rattle.dsa_scenario.specs.declared.faults.ScenarioFault.{TheVariants.{OutOfMemory}}
 use Rattle.dsa_scenario.specs.declared.watched.WatchedWriter.{WatchedWriter}
 use Rattle.dsa_scenario.specs.{Faults.{IsFaultNoted}, Watched.{has_refused, IsSameWriter, IsWrittenFor}}
@@ -49,7 +50,8 @@ read_then remaining result a b c first more = record {
 -- and then it was not asked any more
 pub read_done : {T R : Type 0} (remaining : R → Option (List ℕ)) (result : Result T ScenarioFault)
     (a b : CountedReader R)
-    → IfErr result IsLate → IfErr result (λ e. e ≢ Read) → HasRead remaining 1 a b → IsReadFor remaining result a b
+    → IfErr result IsLate → IfErr result (λ e. e ≢ Read) → HasRead remaining 1 a b
+    → IsReadFor remaining result a b
 read_done remaining (Ok x) a b late other h = record {
   same = h.same;
   asked = h.asked;
@@ -77,7 +79,8 @@ read_told remaining e a b h = record {
   too_long = λ is. let same : e ≡ TooLong = cc in h.too_long (ap Err same);
 }
 
-pub written_told : {T U W : Type 0} (e : ScenarioFault) (a b : WatchedWriter W) → IsWrittenFor {T = T} (Err e) a b
+pub written_told : {T U W : Type 0} (e : ScenarioFault) (a b : WatchedWriter W)
+    → IsWrittenFor {T = T} (Err e) a b
     → IsWrittenFor {T = U} (Err e) a b
 written_told e a b h = record {
   same = h.same;

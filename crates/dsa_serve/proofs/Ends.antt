@@ -1,15 +1,16 @@
 -- Where a first document ends, in one piece more.
-use Rattle.std.proofs.Common.{◌≡◌, ◌≢◌, ◌<◌, ◌≤◌, ◌+◌, ◌-◌, ◌==◌, ◌&&◌, ◌||◌, ℕ, Bool, true, false, not, List}
+use Rattle.std.proofs.Common.{◌≡◌, ◌≢◌, ◌<◌, ◌≤◌, ◌+◌, ◌-◌, ◌==◌, ◌||◌, ℕ, Bool, true, false, not, List}
 use Rattle.std.proofs.Common.{[], ◌∷◌, ◌++◌}
-use Rattle.std.proofs.Common.{All, Some, get_or, length, take, drop, refl, sym, ap, ◌∙◌, arith, append_assoc, subst}
+use Rattle.std.proofs.Common.{Some, get_or, length, take, drop, refl, sym, ap, ◌∙◌, arith}
+use Rattle.std.proofs.Common.{append_assoc, subst}
 use Rattle.std.proofs.lemmas.Bool.{and_parts, cond_both, eqb-true, ne_eqb}
 use Rattle.std.specs.Prelude.{cond}
 use Rattle.std.proofs.lemmas.Option.{get_or_from_slice_get, slice_get-get_or, slice_get_within}
 use Rattle.std.proofs.lemmas.List.{take_more, take-append-drop, Elements.{All-head, All-tail}}
-use Rattle.dsa_scenario.specs.Lines.{line_of_text}
 use Rattle.dsa_serve.specs.declared.ending.Inside.{Inside, TheVariants.{Brackets, Text, Escape}}
-use Rattle.dsa_serve.specs.Input.{after_byte, depth_after, depth_of, ends_with, has_no_end, inside_after, is_open}
-use Rattle.dsa_serve.specs.Input.{IsClosed, IsEndAt, IsFront, IsLine, IsUnended}
+use Rattle.dsa_serve.specs.Input.{after_byte, depth_after, depth_of, ends_with, has_no_end}
+use Rattle.dsa_serve.specs.Input.{inside_after, is_open}
+use Rattle.dsa_serve.specs.Input.{IsEndAt, IsFront, IsLine, IsUnended}
 
 -- what is open behind bytes and more of them
 pub inside_more : (inside : Inside) (bytes more : List ℕ)
@@ -37,7 +38,8 @@ no_end-parts inside (b ∷ bytes) more h =
 -- at a line feed that ends no document a bracket is open
 open_there : (inside : Inside) (more : List ℕ) → has_no_end inside (10 ∷ more) ≡ true → is_open inside ≡ true
 open_there inside more h =
-    not_not (is_open inside) (and_parts (not (not (is_open inside))) (has_no_end (after_byte inside 10) more) h).0
+    not_not (is_open inside)
+    (and_parts (not (not (is_open inside))) (has_no_end (after_byte inside 10) more) h).0
   where
     not_not : (b : Bool) → not (not b) ≡ true → b ≡ true
     not_not true h = refl
@@ -111,12 +113,15 @@ ends_here inside here piece i d within ends before =
     shut false h = refl
 
 -- a document that ends in a piece, and what comes behind it there
-pub front_cut : (first piece : List ℕ) (at : ℕ) → IsUnended first → IsEndAt (inside_after (Brackets 0) first) piece at
-    → IsUnended (first ++ take at piece) × IsFront false (first ++ piece) (first ++ take at piece) (drop (at + 1) piece)
+pub front_cut : (first piece : List ℕ) (at : ℕ) → IsUnended first
+    → IsEndAt (inside_after (Brackets 0) first) piece at
+    → IsUnended (first ++ take at piece)
+    × IsFront false (first ++ piece) (first ++ take at piece) (drop (at + 1) piece)
 front_cut first piece at so_far found =
     let within = slice_get_within piece at 10 found.2 in
     let through : take (at + 1) piece ≡ take at piece ++ 10 ∷ [] =
-    take_more piece at 0 within ∙ ap (λ b. take at piece ++ b ∷ []) (get_or_from_slice_get piece at 10 0 found.2) in
+    take_more piece at 0 within
+    ∙ ap (λ b. take at piece ++ b ∷ []) (get_or_from_slice_get piece at 10 0 found.2) in
     let cut : piece ≡ (take at piece ++ 10 ∷ []) ++ drop (at + 1) piece =
     sym (take-append-drop (at + 1) piece) ∙ ap (λ l. l ++ drop (at + 1) piece) through in (
       no_end-append (Brackets 0) first (take at piece) so_far found.0,
@@ -161,7 +166,9 @@ one_way_in inside (b ∷ first) (b' ∷ first') behind behind' h h' k k' e =
     (cc, it.1)
 
 pub one_document : (input first first' behind behind' : List ℕ) → IsUnended first → IsUnended first'
-    → IsFront false input first behind → IsFront false input first' behind' → (first ≡ first') × (behind ≡ behind')
+    → IsFront false input first behind → IsFront false input first' behind'
+    → (first ≡ first') × (behind ≡ behind')
 one_document input first first' behind behind' h h' front front' =
     one_way_in (Brackets 0) first first' behind behind' h h' front.1 front'.1
-    (sym (append_assoc first (10 ∷ []) behind) ∙ sym front.0 ∙ front'.0 ∙ append_assoc first' (10 ∷ []) behind')
+    (sym (append_assoc first (10 ∷ []) behind) ∙ sym front.0 ∙ front'.0
+    ∙ append_assoc first' (10 ∷ []) behind')

@@ -1,9 +1,11 @@
-pub mod Asking
 pub mod FirstFaults
 pub mod Sessions
+pub mod Asking
+pub mod Answered
 pub mod Lines
 pub mod Ends
 pub mod Courses
+pub mod Histories
 pub mod Stops
 pub mod Counts
 pub mod RowLines

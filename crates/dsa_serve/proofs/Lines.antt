@@ -5,7 +5,8 @@ use Rattle.std.proofs.Common.{refl, sym, ap, ◌∙◌, arith, append_assoc, app
 use Rattle.std.proofs.Common.{length-take, length-drop, subst, min, inl, inr}
 use Rattle.std.proofs.Math.Seq.{take-append-add}
 use Rattle.std.proofs.lemmas.{Bool.{eqb-true, cases_lt}, Grind.{flat_map-append}}
-use Rattle.std.proofs.lemmas.List.{take_all, take_min, take_more, get_or-take, take-append-drop, take-append-le}
+use Rattle.std.proofs.lemmas.List.{take_all, take_min, take_more, get_or-take, take-append-drop}
+use Rattle.std.proofs.lemmas.List.{take-append-le}
 use Rattle.std.proofs.lemmas.List.Elements.{All-append, All-from_get_or, All-nil, All-cons}
 use Rattle.memchr.specs.Find.{Nowhere, Passes, is_byte}
 use Rattle.dsa_scenario.specs.Lines.{line_of_text}
@@ -73,7 +74,8 @@ kept_more n rest piece kept room is left =
           let room_is : room ≡ n - length rest = left ∙ ap (λ l. n - length l) whole in
           let exact : n ≡ length rest + (n - length rest) = omega (arith, short) in
           let cut : take (min room (length piece)) piece ≡ take room piece = take_min room piece in
-          ap (λ l. kept ++ l) (cut ∙ ap (λ m. take m piece) room_is) ∙ ap (λ l. l ++ take (n - length rest) piece) whole
+          ap (λ l. kept ++ l) (cut ∙ ap (λ m. take m piece) room_is)
+          ∙ ap (λ l. l ++ take (n - length rest) piece) whole
           ∙ sym (ap (λ m. take m (rest ++ piece)) exact ∙ take-append-add rest piece (n - length rest))
     ]
 

@@ -1,22 +1,28 @@
 -- Documents, lines and dialogues that several worked rows speak of, all of the smallest device.
 use Rattle.dsa_book.specs.declared.event.Event.TheVariants as event
-use Rattle.std.proofs.Common.{◌≡◌, ◌≢◌, ◌≤◌, ◌^◌, ◌∙◌, ℕ, true, false, List, [], ◌∷◌, ◌++◌, length, map, codes, refl, ap}
-use Rattle.std.proofs.Common.{sym, arith, lit≤, inl, inr}
-use Rattle.std.specs.{Prelude.{Option, Some, None, IsUtf8}, Fmt.{digits}}
+use Rattle.std.proofs.Common.{◌≡◌, ◌≢◌, ◌≤◌, ◌^◌, ◌∙◌, ℕ, true, false, List, [], ◌∷◌, ◌++◌, drop}
+use Rattle.std.proofs.Common.{length, map, codes, refl, ap}
+use Rattle.std.proofs.Common.{sym, subst, arith, lit≤, inl, inr}
+use Rattle.std.specs.{Prelude.{Some, None, IsUtf8}, Fmt.{digits}}
 use Rattle.std.proofs.lemmas.{Option.{same_Some}, List.Elements.{All-nil}}
 use Rattle.serde_json.{specs.{Data.{Data}, Read.{read}}, proofs.OnLiterals.{serde_json_on_literals}}
 use Rattle.dsa_regs.specs.declared.Caps.{Caps}
-use Rattle.dsa_book.specs.{Machine.{is_run, replay, stored_steps}, State.{State, opening}}
+use Rattle.dsa_book.specs.State.{State, opening}
 use Rattle.dsa_scenario.specs.declared.{actions.Action.{Action, TheVariants.{Ask}}, run.Record.{Record}}
-use Rattle.dsa_scenario.specs.Document.{head_of, list_of_items, HasHead, IsOpenable}
+use Rattle.dsa_scenario.specs.Document.{head_of, list_of_items, IsOpenable}
 use Rattle.dsa_conform.specs.Seen.{Seen, observation_of}
-use Rattle.dsa_scenario.specs.{Run.{AreOf, steps_of_records}, Steps.{Visit, visits}, Worked.{smallest_caps}}
+use Rattle.dsa_scenario.specs.{Run.{AreOf, Leads}, Steps.{Visit}, Worked.{smallest_caps}}
 use Rattle.dsa_device.specs.Running.{Running, running_at_first}
 use Rattle.dsa_scenario.proofs.Heads.{Head, head_by, same_head}
-use Rattle.dsa_serve.specs.Requests.{Request, Step, Explain, Show, Fates, Fault, Ready, IsAskedIn, IsRead, Asks}
-use Rattle.dsa_serve.specs.Requests.{AreAsked, TellsNoJson}
-use Rattle.dsa_serve.specs.{Requests.{actions_of, observed_of}, Answers.{answers, AreClosest}}
-use Rattle.dsa_serve.specs.{Input.{IsLine, AreLines}, Dialogue.{from_document, IsDialogue, IsObservedDocument}}
+use Rattle.dsa_serve.proofs.FirstFaults.{headless}
+use Rattle.dsa_serve.specs.Names.{Names}
+use Rattle.dsa_serve.specs.Requests.{Request, Step, Explain, Show, Fates, BeginAnew, Fault, Ready, IsAskedIn}
+use Rattle.dsa_serve.specs.Requests.{AreAsked, Asks, IsRead, TellsNoJson}
+use Rattle.dsa_serve.specs.{Requests.{actions_of, observed_of}}
+use Rattle.dsa_serve.specs.{Answers.{after_requests, answers, records_of_visits}}
+use Rattle.dsa_serve.specs.Answers.{AreClosest, AreStepsOf, IsVisitFrom}
+use Rattle.dsa_serve.specs.Input.{IsLine, AreLines, IsUnended}
+use Rattle.dsa_serve.specs.Dialogue.{from_document, AnswersWhole, IsDialogue, IsObservedDocument, IsTakenAs}
 use Rattle.dsa_serve.specs.Worked.{poll_line, explained_poll_line, show_line, line_of_fates, first_line, unseen}
 use Rattle.dsa_serve.specs.Worked.{flaw_of_a_brace, not_json, not_utf8}
 use Rattle.dsa_check.proofs.OneLine.{open_flaw, byte_flaw}
@@ -41,10 +47,19 @@ poll_document = record {
   read = refl;
 }
 
+-- a strict dialogue reads its document as it is
+pub as_given : {first strict : List ℕ} {caps : Caps} {capacity : ℕ} {observed : List (Action × Seen)}
+    → IsTakenAs false first strict → IsObservedDocument strict caps capacity observed
+    → IsObservedDocument first caps capacity observed
+as_given {caps = caps} {capacity = capacity} {observed = observed} form document =
+    subst (λ bytes. IsObservedDocument bytes caps capacity observed) form document
+
 -- a document has the caps, the capacity and the steps of what it is read as
-pub parts_are : (text : List ℕ) (caps : Caps) (capacity : ℕ) (observed : List (Action × Seen)) (d : Data) (found : Head)
+pub parts_are : (text : List ℕ) (caps : Caps) (capacity : ℕ) (observed : List (Action × Seen))
+    (d : Data) (found : Head)
     → read text ≡ Some d → head_of d ≡ Some found → IsObservedDocument text caps capacity observed
-    → (found.0 ≡ caps) × (found.1 ≡ capacity) × (map observation_of (list_of_items found.2) ≡ map Some observed)
+    → (found.0 ≡ caps) × (found.1 ≡ capacity)
+    × (map observation_of (list_of_items found.2) ≡ map Some observed)
 parts_are text caps capacity observed d found reads has is =
     let head : Some found ≡ Some (caps, capacity, is.head.items) =
     sym has ∙ same_head text d caps capacity is.steps reads is.head in
@@ -55,24 +70,18 @@ parts_are text caps capacity observed d found reads has is =
           ∙ is.read,
     )
 
--- what is read as something without a head has none
-pub headless : (text : List ℕ) (caps : Caps) (capacity : ℕ) (steps : List Data) (d : Data)
-    → read text ≡ Some d → head_of d ≡ None → ¬ HasHead text caps capacity steps
-headless text caps capacity steps d reads none is =
-    let head : ◌≡◌ {A = Option Head} None (Some (caps, capacity, is.items)) =
-    sym none ∙ same_head text d caps capacity steps reads is in
-    absurd cc
-
--- and is no document
+-- what is read as something without a head is no document
 pub no_document : (text : List ℕ) (caps : Caps) (capacity : ℕ) (observed : List (Action × Seen)) (d : Data)
     → read text ≡ Some d → head_of d ≡ None → ¬ IsObservedDocument text caps capacity observed
-no_document text caps capacity observed d reads none is = headless text caps capacity is.steps d reads none is.head
+no_document text caps capacity observed d reads none is =
+    headless text caps capacity is.steps d reads none is.head
 
 -- a number begins no dialogue
-pub no_dialogue : (lines : List (List ℕ)) (last : State) (output : List ℕ) → ¬ IsDialogue (codes "1") lines last output
+pub no_dialogue : (lines : List (List ℕ)) (last : State) (output : List ℕ)
+    → ¬ IsDialogue false (codes "1") lines last output
 unfolding serde_json_on_literals
 no_dialogue lines last output is =
-    no_document (codes "1") is.caps is.capacity is.observed _ refl refl is.document
+    no_document (codes "1") is.caps is.capacity is.observed _ refl refl (as_given is.form is.document)
 
 no_action : (observed : List (Action × Seen)) → [] ≡ map Some observed → observed ≡ []
 no_action [] e = refl
@@ -101,61 +110,67 @@ nothing_behind = record { joined = refl; each = All-nil IsLine; last = All-nil (
 
 -- a line is what it is read as
 pub read_as : (line : List ℕ) (d : Data) (request : Request) → IsUtf8 line → read line ≡ Some d
-    → IsAskedIn d request → IsRead line request
+    → IsAskedIn d request → IsRead None line request
 read_as line d request utf8 reads asks = record
     { document = d; json = record { utf8 = utf8; value = reads }; asks = asks }
 
-pub asks_poll : Asks poll_line (Step (Ask event.Poll) unseen)
+pub asks_poll : Asks None poll_line (Step (Ask event.Poll) unseen)
 unfolding serde_json_on_literals
 asks_poll = (lit≤ tt, read_as poll_line _ _ (poll_line, (refl, refl)) refl refl)
 
-pub asks_explained_poll : Asks explained_poll_line (Explain (Ask event.Poll) unseen)
+pub asks_explained_poll : Asks None explained_poll_line (Explain (Ask event.Poll) unseen)
 unfolding serde_json_on_literals
 asks_explained_poll =
     (lit≤ tt, read_as explained_poll_line _ _ (explained_poll_line, (refl, refl)) refl refl)
 
-pub asks_show : Asks show_line Show
+pub asks_show : Asks None show_line Show
 unfolding serde_json_on_literals
 asks_show = (lit≤ tt, read_as show_line _ _ (show_line, (refl, refl)) refl refl)
 
-pub asks_fates : Asks line_of_fates Fates
+pub asks_fates : Asks None line_of_fates Fates
 unfolding serde_json_on_literals
 asks_fates = (lit≤ tt, read_as line_of_fates _ _ (line_of_fates, (refl, refl)) refl refl)
 
-pub asks_no_json : Asks (codes "{") not_json
+pub asks_no_json : Asks None (codes "{") not_json
 unfolding serde_json_on_literals
 asks_no_json = inr (inl (lit≤ tt, λ utf8. refl, (flaw_of_a_brace, open_flaw, refl)))
 
 -- no lines ask nothing
-pub no_request : (requests : List Request) → AreAsked [] requests → requests ≡ []
-no_request [] h = refl
-no_request (r ∷ requests) h = absurd h
+pub no_request : (names : Names) (requests : List Request) (records : List Record) (last : Names)
+    → AreAsked names [] requests records last → requests ≡ []
+no_request names [] records last h = refl
+no_request names (r ∷ requests) records last h = absurd h
 
 -- what is no JSON asks nothing else
-asks_nothing : (line : List ℕ) (request : Request) → length line ≤ 2 ^ 20 → read line ≡ None → Asks line request
+asks_nothing : (names : Names) (line : List ℕ) (request : Request) → length line ≤ 2 ^ 20 → read line ≡ None
+    → Asks names line request
     → (why : List ℕ) × TellsNoJson line why × (request ≡ Fault why)
-asks_nothing line (Fault why) short none (inl h) = absurd (omega (arith, short, h.0))
-asks_nothing line (Fault why) short none (inr (inl h)) = (why, h.2, refl)
-asks_nothing line (Fault why) short none (inr (inr h)) = let value = h.1.json.value in absurd cc
-asks_nothing line (Step action seen) short none h = let value = h.1.json.value in absurd cc
-asks_nothing line (Explain action seen) short none h = let value = h.1.json.value in absurd cc
-asks_nothing line Show short none h = let value = h.1.json.value in absurd cc
-asks_nothing line Fates short none h = let value = h.1.json.value in absurd cc
-asks_nothing line (Ready count) short none h = let value = h.1.json.value in absurd cc
+asks_nothing names line (Fault why) short none (inl h) = absurd (omega (arith, short, h.0))
+asks_nothing names line (Fault why) short none (inr (inl h)) = (why, h.2, refl)
+asks_nothing names line (Fault why) short none (inr (inr h)) = let value = h.1.json.value in absurd cc
+asks_nothing names line (Step action seen) short none h = let value = h.1.json.value in absurd cc
+asks_nothing names line (Explain action seen) short none h = let value = h.1.json.value in absurd cc
+asks_nothing names line Show short none h = let value = h.1.json.value in absurd cc
+asks_nothing names line Fates short none h = let value = h.1.json.value in absurd cc
+asks_nothing names line (BeginAnew past) short none h = let value = h.1.json.value in absurd cc
+asks_nothing names line (Ready count) short none h = let value = h.1.json.value in absurd cc
 
-pub one_fault : (line : List ℕ) (requests : List Request) → length line ≤ 2 ^ 20 → read line ≡ None
-    → AreAsked (line ∷ []) requests → (why : List ℕ) × TellsNoJson line why × (requests ≡ Fault why ∷ [])
-one_fault line [] short none h = absurd h
-one_fault line (r ∷ []) short none h =
-    let it = asks_nothing line r short none h.0 in
+pub one_fault : (names : Names) (line : List ℕ) (requests : List Request)
+    (records : List Record) (last : Names)
+    → length line ≤ 2 ^ 20 → read line ≡ None → AreAsked names (line ∷ []) requests records last
+    → (why : List ℕ) × TellsNoJson line why × (requests ≡ Fault why ∷ [])
+one_fault names line [] records last short none h = absurd h
+one_fault names line (r ∷ []) records last short none h =
+    let it = asks_nothing names line r short none h.0 in
     (it.0, it.1, ap (λ x. x ∷ []) it.2)
-one_fault line (r ∷ s ∷ requests) short none h = absurd h.1
+one_fault names line (r ∷ s ∷ requests) records last short none h = absurd h.1
 
 -- a byte that is no UTF-8 is told as such
-pub odd_byte : (requests : List Request) → AreAsked ((255 ∷ []) ∷ []) requests → requests ≡ not_utf8 ∷ []
+pub odd_byte : (names : Names) (requests : List Request) (records : List Record) (last : Names)
+    → AreAsked names ((255 ∷ []) ∷ []) requests records last → requests ≡ not_utf8 ∷ []
 unfolding serde_json_on_literals
-odd_byte requests h =
-    let one = one_fault (255 ∷ []) requests (lit≤ tt) refl h in
+odd_byte names requests records last h =
+    let one = one_fault names (255 ∷ []) requests records last (lit≤ tt) refl h in
     let flaw = byte_flaw one.1.0 one.1.1 in
     one.2 ∙ ap (λ why. Fault why ∷ []) (one.1.2 ∙ ap (λ text. codes "not JSON: " ++ text) flaw)
 
@@ -165,39 +180,58 @@ no : ¬ (true ≡ false)
 no same = absurd cc
 
 -- where nothing was seen, each answer shows it
-pub all_unseen : (first : Running) (actions : List Action) (steps : List Visit)
-    → AreClosest first (map (λ action. (action, unseen)) actions) steps
-all_unseen first [] steps = tt
-all_unseen first (action ∷ actions) [] = tt
-all_unseen first (action ∷ actions) (step ∷ steps) =
-    (λ other. absurd (no other), all_unseen step.after actions steps)
+pub all_unseen : (actions : List Action) (steps : List Visit)
+    → AreClosest (map (λ action. (action, unseen)) actions) steps
+all_unseen [] steps = tt
+all_unseen (action ∷ actions) [] = tt
+all_unseen (action ∷ actions) (step ∷ steps) = (λ other. absurd (no other), all_unseen actions steps)
+
+-- a step of a device that stands so
+pub led : {now : Running} {number : ℕ} {step : Visit} → step.number ≡ number → step.before ≡ now
+    → Leads now step.entry step.after → IsVisitFrom now number step
+led number_is before leads = record { number_is = number_is; before = before; leads = leads }
 
 -- the dialogue of a document and of lines, by what they ask and come to
-pub dialogue_by : (first : List ℕ) (lines : List (List ℕ)) (observed : List (Action × Seen)) (requests : List Request)
-    (records : List Record) → IsObservedDocument first smallest_caps 9 observed → AreAsked lines requests
-    → AreOf [] (actions_of (from_document observed requests)) records
-    → is_run smallest_caps 9 (steps_of_records records) ≡ true
-    → replay smallest_caps (stored_steps (steps_of_records records)) ≡ Some (opening smallest_caps)
-    → AreClosest (running_at_first smallest_caps 9) (observed_of (from_document observed requests))
-    (visits smallest_caps 9 [] records)
-    → IsDialogue first lines (opening smallest_caps)
-    (answers (running_at_first smallest_caps 9) 0 (from_document observed requests) (visits smallest_caps 9 [] records))
-dialogue_by first lines observed requests records document asked of_actions run replayed closest = record {
+pub dialogue_by : (first : List ℕ) (lines : List (List ℕ)) (observed : List (Action × Seen))
+    (requests : List Request) (steps : List Visit) → IsObservedDocument first smallest_caps 9 observed
+    → AreAsked None lines requests (drop (length observed) (records_of_visits steps)) None
+    → AreOf [] (actions_of (from_document observed requests)) (records_of_visits steps)
+    → AreStepsOf (running_at_first smallest_caps 9) 0 (from_document observed requests) steps
+    → (after_requests (running_at_first smallest_caps 9) (from_document observed requests) steps).state
+    ≡ opening smallest_caps
+    → AreClosest (observed_of (from_document observed requests)) steps
+    → IsDialogue false first lines (opening smallest_caps)
+    (answers (running_at_first smallest_caps 9) 0 (from_document observed requests) steps)
+dialogue_by first lines observed requests steps document asked of_actions led led_to closest = record {
   caps = smallest_caps;
   capacity = 9;
   observed = observed;
   requests = requests;
-  records = records;
+  steps = steps;
+  strict = first;
+  form = refl;
   document = document;
   opening = opening_is;
+  names = None;
   asked = asked;
-  of_actions = of_actions;
-  run = run;
-  replayed = replayed;
-  closest = closest;
-  answered = refl;
+  course = record { of_actions = of_actions; led = led; closest = closest; answered = refl };
+  led_to = led_to;
 }
 
-pub bare_dialogue : IsDialogue (first_line []) [] (opening smallest_caps) (codes "ready 0\n")
+pub bare_dialogue : IsDialogue false (first_line []) [] (opening smallest_caps) (codes "ready 0\n")
 unfolding digits
-bare_dialogue = dialogue_by (first_line []) [] [] [] [] bare_document tt tt refl refl tt
+bare_dialogue = dialogue_by (first_line []) [] [] [] [] bare_document refl tt tt refl tt
+
+-- a document that the end of the input ended, and that a dialogue answers
+pub alone : (first output : List ℕ) → IsUnended first → length first ≤ 2 ^ 20
+    → IsDialogue false first [] (opening smallest_caps) output → AnswersWhole false true first output
+alone first output unended short dialogue = record {
+  first = first;
+  behind = [];
+  lines = [];
+  rest = [];
+  last = opening smallest_caps;
+  split = record { unended = unended; short = short; front = (refl, refl) };
+  lines_are = nothing_behind;
+  dialogue = dialogue;
+}

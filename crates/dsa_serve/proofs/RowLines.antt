@@ -1,5 +1,6 @@
 -- Lines and what comes between them, for the worked rows. Each lemma speaks of bytes alone.
-use Rattle.std.proofs.Common.{◌≡◌, ◌≢◌, ◌==◌, ℕ, true, false, not, List, [], ◌∷◌, ◌++◌, All, refl, ap, sym, ◌∙◌, arith}
+use Rattle.std.proofs.Common.{◌≡◌, ◌≢◌, ◌==◌, ℕ, true, false, not, List, [], ◌∷◌, ◌++◌, All, refl}
+use Rattle.std.proofs.Common.{ap, sym, ◌∙◌, arith}
 use Rattle.std.proofs.Common.{codes, get_or, length, length-append, append_assoc, flat_map}
 use Rattle.std.specs.List.{list_all}
 use Rattle.std.proofs.Math.Seq.{get_or-append_seam}
@@ -65,8 +66,8 @@ one_division (l ∷ lines) (l' ∷ lines') rest rest' each each' last last' e =
     let it = one_way l l' (flat_map line_of_text lines ++ rest) (flat_map line_of_text lines' ++ rest')
     (All-head NoFeed l lines each) (All-head NoFeed l' lines' each')
     (sym (behind_first l lines rest) ∙ e ∙ behind_first l' lines' rest') in
-    let more = one_division lines lines' rest rest' (All-tail NoFeed l lines each) (All-tail NoFeed l' lines' each')
-    last last' it.1 in
+    let more = one_division lines lines' rest rest' (All-tail NoFeed l lines each)
+    (All-tail NoFeed l' lines' each') last last' it.1 in
     let first = it.0 in
     let others = more.0 in
     (cc, more.1)
@@ -84,7 +85,8 @@ no_lines (l ∷ lines) rest e = absurd (omega (
 ))
 
 -- texts that differ in a byte
-pub apart_at : (i a b : ℕ) (text other : List ℕ) → get_or text i 0 ≡ a → get_or other i 0 ≡ b → a ≢ b → text ≢ other
+pub apart_at : (i a b : ℕ) (text other : List ℕ) → get_or text i 0 ≡ a → get_or other i 0 ≡ b
+    → a ≢ b → text ≢ other
 apart_at i a b text other here there apart same = apart (sym here ∙ ap (λ l. get_or l i 0) same ∙ there)
 
 -- a text is not told as a value that is no step
@@ -95,4 +97,5 @@ no_step_apart text texts byte here other = apart_at 2 byte 32 text
 
 pub json_apart : (flaw : List ℕ) (texts : List (List ℕ))
     → codes "not JSON: " ++ flaw ≢ codes "no step: " ++ joined_text texts
-json_apart flaw texts = no_step_apart (codes "not JSON: " ++ flaw) texts 116 refl (λ same. omega (arith, same))
+json_apart flaw texts =
+    no_step_apart (codes "not JSON: " ++ flaw) texts 116 refl (λ same. omega (arith, same))

@@ -1,6 +1,8 @@
 -- The lines of an input.
-use Rattle.std.specs.Prelude.{◌≡◌, ◌≢◌, ◌≤◌, ◌==◌, ◌||◌, ◌&&◌, ◌+◌, ◌-◌, ℕ, ◌^◌, Bool, true, false, not, nat_lt}
-use Rattle.std.specs.Prelude.{if◌then◌else◌, List, [], ◌∷◌, ◌++◌, All, flat_map, length, slice_get, Some, take}
+use Rattle.std.specs.Prelude.{◌≡◌, ◌≢◌, ◌≤◌, ◌==◌, ◌||◌, ◌&&◌, ◌+◌, ◌-◌, ℕ, ◌^◌, Bool, true, false}
+use Rattle.std.specs.Prelude.{not, nat_lt}
+use Rattle.std.specs.Prelude.{if◌then◌else◌, List, [], ◌∷◌, ◌++◌, All, flat_map, length, slice_get}
+use Rattle.std.specs.Prelude.{Some, take}
 use Rattle.dsa_scenario.specs.Lines.{line_of_text}
 use Rattle.dsa_serve.specs.declared.ending.Inside.{Inside, TheVariants.{Brackets, Text, Escape}}
 

@@ -1,3 +1,4 @@
+pub mod Names
 pub mod Requests
 pub mod Answers
 pub mod Input

@@ -2,7 +2,7 @@
 use Rattle.dsa_book.specs.declared.answer.Reply.TheVariants as reply
 use Rattle.dsa_book.specs.declared.event.Event.TheVariants as event
 use Rattle.std.specs.Prelude.{ℕ, List, [], ◌∷◌, ◌++◌, codes, Some, None}
-use Rattle.serde_json.specs.Data.{Data}
+use Rattle.serde_json.specs.Data.{Data, string}
 use Rattle.dsa_book.specs.declared.answer.PollAnswer.TheVariants.{Nothing}
 use Rattle.dsa_book.specs.declared.fate.Fate.TheVariants.{Abandoned, Completed}
 use Rattle.dsa_scenario.specs.Worked.{no_command}
@@ -17,6 +17,10 @@ use Rattle.dsa_serve.specs.Requests.{Request, Step, Explain, Fault}
 -- `explain` around a value
 abbrev pub explain_around : Data → Data
 explain_around d = object_of (step_of_kind (codes "explain") ((codes "step", d) ∷ []))
+
+-- an object with this own name
+abbrev pub own_step : List ℕ → Data
+own_step name = object_of ((codes "as", string name) ∷ [])
 
 -- nothing was seen, and a text was
 abbrev pub unseen : Seen
@@ -68,6 +72,13 @@ poll_line = codes "{\"do\":\"poll\"}"
 
 abbrev pub explained_poll_line : List ℕ
 explained_poll_line = codes "{\"do\":\"explain\",\"step\":{\"do\":\"poll\"}}"
+
+-- a line that says wrongly what was seen of a poll, and one in the friendly form
+abbrev pub unread_poll_line : List ℕ
+unread_poll_line = codes "{\"do\":\"poll\",\"answer\":0}"
+
+abbrev pub friendly_line : List ℕ
+friendly_line = codes "{\"do\":\"command\",\"command\":\"enable-device\"}"
 
 -- a first line: a document with these steps, on the smallest device
 abbrev pub first_line : List ℕ → List ℕ

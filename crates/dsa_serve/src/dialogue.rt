@@ -1,7 +1,8 @@
 //! A dialogue in its course: a session, and what has come of the next line.
 
-ghost use Rattle.std.specs.Prelude.{◌≡◌, ◌++◌, ◌+◌, [], ◌∷◌, ℕ, List, take, OnOk, string_bytes};
-ghost use Rattle.dsa_serve.specs.{Input.{IsLine}, Dialogue.{IsServing, IsDialogueEnded}};
+ghost use Rattle.std.specs.Prelude.{◌≡◌, ◌++◌, ◌+◌, [], ◌∷◌, ℕ, Bool, List, take, OnOk};
+ghost use Rattle.std.specs.Prelude.{string_bytes};
+ghost use Rattle.dsa_serve.specs.{Input.{IsLine}, Dialogue.{Serves, IsDialogueEnded}};
 
 use crate::requests::MAX_LINE;
 use crate::session::Session;
@@ -32,14 +33,11 @@ impl<S: EntryStore> Dialogue<S> {
     fn end_line(&mut self, alloc: Global, text: &mut String, piece: &[u8]) -> Result<(), AllocError>
         ensures { OnOk result
             (IsLine piece.now
-            → (first : List ℕ) (behind : List ℕ) (written : List ℕ)
-            → IsServing first behind (written ++ string_bytes text.old) self.old.session.number
-            self.old.session.device self.old.session.tickets.items self.old.session.told
-            self.old.kept.items
-            → IsServing first (behind ++ piece.now ++ 10 ∷ [])
-            (written ++ string_bytes text.new) self.new.session.number
-            self.new.session.device self.new.session.tickets.items self.new.session.told
-            self.new.kept.items) }
+            → (is_friendly : Bool) (first : List ℕ) (behind : List ℕ) (written : List ℕ)
+            → Serves is_friendly first behind (written ++ string_bytes text.old)
+            self.old.session self.old.kept.items
+            → Serves is_friendly first (behind ++ piece.now ++ 10 ∷ [])
+            (written ++ string_bytes text.new) self.new.session self.new.kept.items) }
     {
         keep(&mut self.kept, piece)?;
         self.session.answer(alloc, text, &self.kept)?;
@@ -50,13 +48,11 @@ impl<S: EntryStore> Dialogue<S> {
     /// Takes more bytes, and adds the answers to the lines that they complete.
     pub fn feed(&mut self, alloc: Global, text: &mut String, bytes: &[u8]) -> Result<(), AllocError>
         ensures { OnOk result
-            ((first : List ℕ) (behind : List ℕ) (written : List ℕ)
-            → IsServing first behind (written ++ string_bytes text.old) self.old.session.number
-            self.old.session.device self.old.session.tickets.items self.old.session.told
-            self.old.kept.items
-            → IsServing first (behind ++ bytes.now) (written ++ string_bytes text.new)
-            self.new.session.number self.new.session.device self.new.session.tickets.items
-            self.new.session.told self.new.kept.items) }
+            ((is_friendly : Bool) (first : List ℕ) (behind : List ℕ) (written : List ℕ)
+            → Serves is_friendly first behind (written ++ string_bytes text.old)
+            self.old.session self.old.kept.items
+            → Serves is_friendly first (behind ++ bytes.now) (written ++ string_bytes text.new)
+            self.new.session self.new.kept.items) }
     {
         let mut rest = bytes;
         'lines: while let Some(at) = memchr(b'\n', rest) {
@@ -70,11 +66,10 @@ impl<S: EntryStore> Dialogue<S> {
     /// Adds the answer to a last line without a line feed, where it has a byte, and then the fates.
     pub fn add_end(&mut self, alloc: Global, text: &mut String) -> Result<(), AllocError>
         ensures { OnOk result
-            ((first : List ℕ) (behind : List ℕ) (written : List ℕ)
-            → IsServing first behind (written ++ string_bytes text.old) self.old.session.number
-            self.old.session.device self.old.session.tickets.items self.old.session.told
-            self.old.kept.items
-            → IsDialogueEnded first behind (written ++ string_bytes text.new)) }
+            ((is_friendly : Bool) (first : List ℕ) (behind : List ℕ) (written : List ℕ)
+            → Serves is_friendly first behind (written ++ string_bytes text.old)
+            self.old.session self.old.kept.items
+            → IsDialogueEnded is_friendly first behind (written ++ string_bytes text.new)) }
     {
         if !self.kept.is_empty() {
             self.session.answer(alloc, text, &self.kept)?;

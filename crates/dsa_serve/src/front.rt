@@ -1,6 +1,6 @@
 //! The document at the head of an input.
 
-ghost use Rattle.std.specs.Prelude.{◌≡◌, ◌⊎◌, ◌<◌, ◌≤◌, ◌+◌, ◌++◌, true, false, ℕ, List, Option};
+ghost use Rattle.std.specs.Prelude.{◌≡◌, ◌⊎◌, ◌<◌, ◌≤◌, ◌+◌, ◌++◌, true, false, ℕ, Bool, List, Option};
 ghost use Rattle.std.specs.Prelude.{length, take, drop, vec_len, IfOk, IfErr, IsErrOf};
 ghost use Rattle.std.specs.Io.KnownBytes.{Consumes, IsAtEnd};
 ghost use Rattle.dsa_scenario.specs.declared.faults.ScenarioFault.{ScenarioFault};
@@ -75,9 +75,10 @@ pub fn read_first<R: Read>(
         ⊎ (e ≡ ScenarioFault.TooLong)
         ⊎ (e ≡ ScenarioFault.OutOfMemory)) }
     ensures stopped { IfErr result
-        (λ e. (held : Option (List ℕ))
-        → IsStoppedWithin (length chunk.old) e (counted_remaining R.remaining reader.old)
-        (counted_remaining R.remaining reader.new) held held) }
+        (λ e. (is_friendly : Bool) (held : Option (List ℕ))
+        → IsStoppedWithin is_friendly (length chunk.old) e
+        (counted_remaining R.remaining reader.old) (counted_remaining R.remaining reader.new)
+        held held) }
 {
     let mut first = Vec::new(alloc);
     let mut inside = Inside::Brackets(0);

@@ -6,6 +6,7 @@
 mod dialogue;
 mod ending;
 mod front;
+pub mod laws;
 mod opening;
 mod requests;
 pub mod rows;
@@ -17,5 +18,5 @@ pub use ending::Inside;
 pub use front::{Front, read_first};
 pub use opening::begin;
 pub use requests::{Line, MAX_LINE, no_json, no_step, parse_line};
-pub use serving::{serve_counted, serve_watched};
+pub use serving::{serve_counted, serve_dialogue, serve_either, serve_watched};
 pub use session::Session;

@@ -1,13 +1,17 @@
 //! What a line asks.
 
-ghost use Rattle.std.specs.Prelude.{◌≡◌, codes, map, option_map, true, IfOk, string_bytes};
+ghost use Rattle.std.specs.Prelude.{◌≡◌, ◌++◌, ℕ, List, codes, map, option_map, true, IfOk};
+ghost use Rattle.std.specs.Prelude.{string_bytes};
 ghost use Rattle.serde_json.specs.View.{view};
 ghost use Rattle.dsa_conform.specs.Seen.{seen_as};
 ghost use Rattle.dsa_scenario.specs.Fields.{text_of};
 ghost use Rattle.dsa_check.specs.Lines.{reason_text};
+ghost use Rattle.dsa_check.specs.OneStep.{AreStepTexts, joined_text};
 ghost use Rattle.dsa_serve.specs.Requests.{explained_of, is_explanation, request_as, request_of};
-ghost use Rattle.dsa_serve.specs.Requests.{request_of_word, AreTextsOf, TellsNoJson, TellsNoStep};
+ghost use Rattle.dsa_serve.specs.Requests.{request_of_word, step_within, stuck_text, AreTextsOf};
+ghost use Rattle.dsa_serve.specs.Requests.{TellsNoJson, TellsNoStep};
 
+use dsa_book::PastFates;
 use dsa_check::{Reason, add_flaw, add_joined, reasons_of_keys, reasons_of_step};
 use dsa_conform::{Observed, parse_step};
 use dsa_scenario::{Action, Field, Form, table_of};
@@ -31,6 +35,8 @@ pub enum Line<'v> {
     Show,
     /// To tell the fates that were not told yet.
     Fates,
+    /// To begin the history anew, with the fates so far or without them.
+    BeginAnew(PastFates),
 }
 
 // The word at `do`.
@@ -40,14 +46,24 @@ fn word_of(value: &Value) -> Option<&str>
     value.get("do")?.as_str()
 }
 
-// Whether that word asks for an explanation.
-fn is_explanation(value: &Value) -> bool
+/// Whether the word at `do` asks for an explanation.
+pub fn is_explanation(value: &Value) -> bool
     ensures { result ≡ is_explanation (view value.now) }
 {
     match word_of(value) {
         Some(word) => word == "explain",
         None => false,
     }
+}
+
+/// The step object that a value is, or that it asks to explain.
+pub fn step_within(value: &Value) -> Option<&Value>
+    ensures { option_map (λ step. view step.now) result ≡ step_within (view value.now) }
+{
+    if is_explanation(value) {
+        return value.get("step");
+    }
+    Some(value)
 }
 
 // What the step object inside `explain` asks, and what it says was seen.
@@ -67,6 +83,8 @@ fn parse_word(word: &str) -> Option<Line<'_>>
     match word {
         "show" => Some(Line::Show),
         "fates" => Some(Line::Fates),
+        "begin-anew" => Some(Line::BeginAnew(PastFates::Kept)),
+        "begin-anew-without-fates" => Some(Line::BeginAnew(PastFates::Forgotten)),
         _ => None,
     }
 }
@@ -102,13 +120,43 @@ fn reasons_of(alloc: Global, value: &Value) -> Result<Vec<Reason>, AllocError>
     }
 }
 
+// That a value is no step, by these reasons.
+fn told(alloc: Global, reasons: &[Reason]) -> Result<String, AllocError>
+    ensures { IfOk result
+        (λ why. string_bytes why
+        ≡ codes "no step: " ++ joined_text (map reason_text reasons.now)) }
+{
+    let mut why = String::from_str(alloc, "no step: ")?;
+    add_joined(&mut why, reasons)?;
+    Ok(why)
+}
+
 /// Why a value asks nothing.
 pub fn no_step(alloc: Global, value: &Value) -> Result<String, AllocError>
     ensures { IfOk result (λ why. TellsNoStep (view value.now) (string_bytes why)) }
 {
-    let mut why = String::from_str(alloc, "no step: ")?;
     let reasons = reasons_of(alloc, value)?;
-    add_joined(&mut why, reasons.as_slice())?;
+    told(alloc, reasons.as_slice())
+}
+
+/// Why a value is no strict step.
+pub fn no_strict_step(alloc: Global, step: &Value) -> Result<String, AllocError>
+    ensures { IfOk result
+        (λ why. (texts : List (List ℕ))
+        × AreStepTexts (view step.now) texts
+        × (string_bytes why ≡ codes "no step: " ++ joined_text texts)) }
+{
+    let reasons = reasons_of_step(alloc, step)?;
+    told(alloc, reasons.as_slice())
+}
+
+/// Why a step asks nothing that has nothing strict at this key, nor anything that means it.
+pub fn no_strict_form(alloc: Global, key: &str) -> Result<String, AllocError>
+    ensures { IfOk result (λ why. string_bytes why ≡ stuck_text key.now) }
+{
+    let mut why = String::from_str(alloc, "no step: \"")?;
+    why.push_str(key)?;
+    why.push_str("\" has no strict form")?;
     Ok(why)
 }
 

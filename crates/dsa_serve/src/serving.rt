@@ -7,8 +7,8 @@ ghost use Rattle.dsa_scenario.specs.declared.faults.ScenarioFault.{ScenarioFault
 ghost use Rattle.dsa_scenario.specs.Counted.{counted_remaining, asked_of, given_of, IsAskedFor};
 ghost use Rattle.dsa_scenario.specs.Counted.{IsReadFor};
 ghost use Rattle.dsa_scenario.specs.Watched.{watched_contents, IsWrittenFor};
-ghost use Rattle.dsa_serve.specs.Dialogue.{AnswersAll, GoesOn, IsInCourse, IsLate, IsStoppedOn};
-ghost use Rattle.dsa_serve.specs.Dialogue.{IsStoppedWithin, IsStopped};
+ghost use Rattle.dsa_serve.specs.Dialogue.{AnswersAll, GoesOn, IsAllAnswered, IsInCourse};
+ghost use Rattle.dsa_serve.specs.Dialogue.{IsLate, IsStoppedOn, IsStoppedWithin, IsStopped};
 
 use crate::dialogue::Dialogue;
 use crate::front::read_first;
@@ -35,6 +35,7 @@ fn start<R: Read, W: Write>(
     reader: &mut CountedReader<'_, R>,
     chunk: &mut [u8],
     writer: &mut WatchedWriter<'_, W>,
+    is_friendly: bool,
 ) -> Result<Started, ScenarioFault>
     requires { 0 < length chunk.old }
     ensures reader { IsReadFor R.remaining result reader.old reader.new }
@@ -42,20 +43,20 @@ fn start<R: Read, W: Write>(
     ensures asked_first { IfOk result
         (λ it. it.ended ≡ false → IsAskedFor R.remaining reader.old reader.new 0) }
     ensures ok { IfOk result
-        (λ it. IsInCourse it.ended (counted_remaining R.remaining reader.old)
+        (λ it. IsInCourse is_friendly it.ended (counted_remaining R.remaining reader.old)
         (counted_remaining R.remaining reader.new) (watched_contents W.contents writer.old)
         (watched_contents W.contents writer.new) it.dialogue) }
     ensures end { IfOk result
         (λ it. it.ended ≡ true → IsAtEnd (counted_remaining R.remaining reader.new)) }
     ensures nothing { IfErr result (λ e. e ≢ ScenarioFault.Write → writer.new ≡ writer.old) }
     ensures stopped { IfErr result
-        (λ e. IsStoppedWithin (length chunk.old) e (counted_remaining R.remaining reader.old)
-        (counted_remaining R.remaining reader.new) (watched_contents W.contents writer.old)
-        (watched_contents W.contents writer.new)) }
+        (λ e. IsStoppedWithin is_friendly (length chunk.old) e
+        (counted_remaining R.remaining reader.old) (counted_remaining R.remaining reader.new)
+        (watched_contents W.contents writer.old) (watched_contents W.contents writer.new)) }
 {
     let front = read_first(alloc, reader, chunk)?;
     let mut text = String::new(alloc);
-    let dialogue = begin(alloc, &mut text, &front)?;
+    let dialogue = begin(alloc, &mut text, &front, is_friendly)?;
     write_text(writer, text.as_bytes())?;
     Ok(Started {
         dialogue,
@@ -139,23 +140,22 @@ fn finish<S: EntryStore, W: Write>(
 ) -> Result<(), ScenarioFault>
     ensures writer { IsWrittenFor result writer.old writer.new }
     ensures ok { OnOk result
-        ((ended : Bool) (had : Option (List ℕ)) (left : Option (List ℕ)) (held : Option (List ℕ))
-        → IsInCourse ended had left held (watched_contents W.contents writer.old)
+        ((is_friendly ended : Bool) (had left held : Option (List ℕ))
+        → IsInCourse is_friendly ended had left held (watched_contents W.contents writer.old)
         dialogue.old
         → (input : List ℕ)
         × (output : List ℕ)
         × Consumes had left input
-        × AnswersAll input output
+        × AnswersAll is_friendly input output
         × Appends held (watched_contents W.contents writer.new) output) }
     ensures late { IfErr result IsLate }
     ensures not_read { IfErr result (λ e. e ≢ ScenarioFault.Read) }
     ensures stopped { IfErr result
-        (λ e. (ended : Bool) (had : Option (List ℕ)) (left : Option (List ℕ))
-        (held : Option (List ℕ))
+        (λ e. (is_friendly ended : Bool) (had left held : Option (List ℕ))
         → IsAtEnd left
-        → IsInCourse ended had left held (watched_contents W.contents writer.old)
+        → IsInCourse is_friendly ended had left held (watched_contents W.contents writer.old)
         dialogue.old
-        → IsStopped e had left held (watched_contents W.contents writer.new)) }
+        → IsStopped is_friendly e had left held (watched_contents W.contents writer.new)) }
 {
     let mut text = String::new(alloc);
     dialogue.add_end(alloc, &mut text)?;
@@ -168,10 +168,45 @@ fn finish<S: EntryStore, W: Write>(
 /// line that asks nothing is answered with its fault, and changes nothing. At the end of input come
 /// all fates, as at the end of a document's run.
 ///
-/// A fault of the document is the same as that of [`run_scenario`](dsa_scenario::run_scenario), and
-/// nothing is written then. On `Read` an answer of the reader was an error, and all whole lines
-/// that were read are answered; on `OutOfMemory` those before the last read. On `Write` a write was
-/// refused, and the writer has got a proper prefix of the answers.
+/// In a friendly dialogue the document is read as its [`strict_form`](dsa_expand::strict_form).
+/// Each further line may be in the friendly form of [`meaning_of`](dsa_expand::meaning_of), by the
+/// own names that the steps before it have given, those of the document too.
+///
+/// A fault of the document is the same as that of [`run_scenario`](dsa_scenario::run_scenario), or
+/// in a friendly dialogue that for which it has no strict form, and nothing is written then. On
+/// `Read` an answer of the reader was an error, and all whole lines that were read are answered; on
+/// `OutOfMemory` those before the last read. On `Write` a write was refused, and the writer has got
+/// a proper prefix of the answers.
+pub fn serve_dialogue<R: Read, W: Write>(
+    alloc: Global,
+    reader: &mut CountedReader<'_, R>,
+    writer: &mut WatchedWriter<'_, W>,
+    is_friendly: bool,
+) -> Result<(), ScenarioFault>
+    ensures reader { IsReadFor R.remaining result reader.old reader.new }
+    ensures writer { IsWrittenFor result writer.old writer.new }
+    ensures ok { OnOk result (IsAllAnswered is_friendly (counted_remaining R.remaining reader.old)
+        (counted_remaining R.remaining reader.new) (watched_contents W.contents writer.old)
+        (watched_contents W.contents writer.new)) }
+    ensures stopped { IfErr result
+        (λ e. IsStopped is_friendly e (counted_remaining R.remaining reader.old)
+        (counted_remaining R.remaining reader.new) (watched_contents W.contents writer.old)
+        (watched_contents W.contents writer.new)) }
+    ensures nothing { IfErr result
+        (λ e. ¬ IsLate e → writer.new ≡ writer.old) }
+{
+    let mut chunk = [0u8; CHUNK];
+    let mut it = start(alloc, reader, &mut chunk, writer, is_friendly)?;
+    if !it.ended {
+        serve_lines(alloc, &mut it.dialogue, reader, &mut chunk, writer)?;
+    }
+    finish(alloc, &mut it.dialogue, writer)
+}
+
+/// Reads a document and a request in each further line, and answers each line, all in the strict
+/// form.
+///
+/// All of it is the work of [`serve_dialogue`].
 pub fn serve_counted<R: Read, W: Write>(
     alloc: Global,
     reader: &mut CountedReader<'_, R>,
@@ -179,33 +214,47 @@ pub fn serve_counted<R: Read, W: Write>(
 ) -> Result<(), ScenarioFault>
     ensures reader { IsReadFor R.remaining result reader.old reader.new }
     ensures writer { IsWrittenFor result writer.old writer.new }
-    ensures ok { OnOk result
-        ((input : List ℕ)
-        × (output : List ℕ)
-        × Consumes (counted_remaining R.remaining reader.old)
-        (counted_remaining R.remaining reader.new) input
-        × IsAtEnd (counted_remaining R.remaining reader.new)
-        × AnswersAll input output
-        × Appends (watched_contents W.contents writer.old)
-        (watched_contents W.contents writer.new) output) }
+    ensures ok { OnOk result (IsAllAnswered false (counted_remaining R.remaining reader.old)
+        (counted_remaining R.remaining reader.new) (watched_contents W.contents writer.old)
+        (watched_contents W.contents writer.new)) }
     ensures stopped { IfErr result
-        (λ e. IsStopped e (counted_remaining R.remaining reader.old)
+        (λ e. IsStopped false e (counted_remaining R.remaining reader.old)
         (counted_remaining R.remaining reader.new) (watched_contents W.contents writer.old)
         (watched_contents W.contents writer.new)) }
     ensures nothing { IfErr result
         (λ e. ¬ IsLate e → writer.new ≡ writer.old) }
 {
-    let mut chunk = [0u8; CHUNK];
-    let mut it = start(alloc, reader, &mut chunk, writer)?;
-    if !it.ended {
-        serve_lines(alloc, &mut it.dialogue, reader, &mut chunk, writer)?;
-    }
-    finish(alloc, &mut it.dialogue, writer)
+    serve_dialogue(alloc, reader, writer, false)
 }
 
-/// Reads a document and a request in each further line, and answers each line.
+/// Reads a document and a request in each further line, and answers each line. In a friendly
+/// dialogue all of them may be in the friendly form.
 ///
-/// All of it is the work of [`serve_counted`], which is lent the reader as one that is counted.
+/// All of it is the work of [`serve_dialogue`], which is lent the reader as one that is counted.
+pub fn serve_either<R: Read, W: Write>(
+    alloc: Global,
+    reader: &mut R,
+    writer: &mut WatchedWriter<'_, W>,
+    is_friendly: bool,
+) -> Result<(), ScenarioFault>
+    ensures writer { IsWrittenFor result writer.old writer.new }
+    ensures ok { OnOk result
+        (IsAllAnswered is_friendly (R.remaining reader.old) (R.remaining reader.new)
+        (watched_contents W.contents writer.old) (watched_contents W.contents writer.new)) }
+    ensures stopped { IfErr result
+        (λ e. IsStopped is_friendly e (R.remaining reader.old) (R.remaining reader.new)
+        (watched_contents W.contents writer.old) (watched_contents W.contents writer.new)) }
+    ensures nothing { IfErr result
+        (λ e. ¬ IsLate e → writer.new ≡ writer.old) }
+{
+    let mut reader = CountedReader::new(reader);
+    serve_dialogue(alloc, &mut reader, writer, is_friendly)
+}
+
+/// Reads a document and a request in each further line, and answers each line, all in the strict
+/// form.
+///
+/// All of it is the work of [`serve_either`].
 pub fn serve_watched<R: Read, W: Write>(
     alloc: Global,
     reader: &mut R,
@@ -213,19 +262,13 @@ pub fn serve_watched<R: Read, W: Write>(
 ) -> Result<(), ScenarioFault>
     ensures writer { IsWrittenFor result writer.old writer.new }
     ensures ok { OnOk result
-        ((input : List ℕ)
-        × (output : List ℕ)
-        × Consumes (R.remaining reader.old) (R.remaining reader.new) input
-        × IsAtEnd (R.remaining reader.new)
-        × AnswersAll input output
-        × Appends (watched_contents W.contents writer.old)
-        (watched_contents W.contents writer.new) output) }
+        (IsAllAnswered false (R.remaining reader.old) (R.remaining reader.new)
+        (watched_contents W.contents writer.old) (watched_contents W.contents writer.new)) }
     ensures stopped { IfErr result
-        (λ e. IsStopped e (R.remaining reader.old) (R.remaining reader.new)
+        (λ e. IsStopped false e (R.remaining reader.old) (R.remaining reader.new)
         (watched_contents W.contents writer.old) (watched_contents W.contents writer.new)) }
     ensures nothing { IfErr result
         (λ e. ¬ IsLate e → writer.new ≡ writer.old) }
 {
-    let mut reader = CountedReader::new(reader);
-    serve_counted(alloc, &mut reader, writer)
+    serve_either(alloc, reader, writer, false)
 }

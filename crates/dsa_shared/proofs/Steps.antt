@@ -37,13 +37,13 @@ gained receipts h d t e r same a =
 
 -- what the device under the lock answers, with the receipts and the history that it had before
 answered_for : (caps : Caps) (capacity : ℕ) (receipts h : List Step) (d t : Running) (e : Event) (r : Reply)
-    → IsReplay d → d.caps ≡ caps → d.capacity ≡ capacity → h ≡ d.history → length receipts ≤ length h
-    → after_answer d e r ≡ Some t → IsAnsweredFor caps capacity receipts e r
-answered_for caps capacity receipts h d t e r replay same_caps same_capacity same seen a =
+    → d.anew ≡ false → IsReplay d → d.caps ≡ caps → d.capacity ≡ capacity → h ≡ d.history
+    → length receipts ≤ length h → after_answer d e r ≡ Some t → IsAnsweredFor caps capacity receipts e r
+answered_for caps capacity receipts h d t e r not_anew replay same_caps same_capacity same seen a =
     let P : List Step → Type 0 = λ xs. length receipts ≤ length xs in (
       d,
       t,
-      record { replay = replay; same_caps = same_caps; same_capacity = same_capacity },
+      record { not_anew = not_anew; replay = replay; same_caps = same_caps; same_capacity = same_capacity },
       subst P same seen,
       a,
     )
@@ -53,23 +53,25 @@ pub record Owed (caps : Caps) (capacity : ℕ) (h : List Step) (t : Running) (ev
     (r : Reply) : Type 0 where
   pub same_capacity : t.capacity ≡ capacity
   pub same_caps : t.caps ≡ caps
+  pub not_anew : t.anew ≡ false
   pub grown : (length h ≤ length t.history) × (length t.history ≤ length h + 1)
   pub gained : (receipts : List Step) → receipts ++ drop (length h) t.history ≡ with_step receipts (event_by number) r
   pub answered : (receipts : List Step) → length receipts ≤ length h
       → IsAnsweredFor caps capacity receipts (event_by number) r
 
 pub owed : (caps : Caps) (capacity : ℕ) (h : List Step) (d t : Running) (event_by : ℕ → Event) (number : ℕ) (r : Reply)
-    → IsReplay d → d.capacity ≡ capacity → d.caps ≡ caps → h ≡ d.history → after_answer d (event_by number) r ≡ Some t
-    → Owed caps capacity h t event_by number r
-owed caps capacity h d t event_by number r replay same_capacity same_caps same a =
+    → d.anew ≡ false → (d.anew ≡ false → IsReplay d) → d.capacity ≡ capacity → d.caps ≡ caps → h ≡ d.history
+    → after_answer d (event_by number) r ≡ Some t → Owed caps capacity h t event_by number r
+owed caps capacity h d t event_by number r not_anew replay same_capacity same_caps same a =
     let s = grows d t (event_by number) r a in
     record {
       same_capacity = s.capacity ∙ same_capacity;
       same_caps = s.caps ∙ same_caps;
+      not_anew = s.anew ∙ not_anew;
       grown = within h d t (event_by number) r same a;
       gained = λ receipts. gained receipts h d t (event_by number) r same a;
-      answered = λ receipts seen. answered_for caps capacity receipts h d t (event_by number) r replay same_caps
-          same_capacity same seen a;
+      answered = λ receipts seen. answered_for caps capacity receipts h d t (event_by number) r not_anew
+          (replay not_anew) same_caps same_capacity same seen a;
     }
 
 -- a numbered seat after a step, from what it has inside

@@ -1,12 +1,14 @@
 -- What callers know of the device under the lock.
-use Rattle.std.specs.Prelude.{◌≡◌, ◌≤◌, ℕ, List, length, Some}
+use Rattle.std.specs.Prelude.{◌≡◌, ◌≤◌, ℕ, false, List, length, Some}
 use Rattle.dsa_regs.specs.declared.Caps.{Caps}
 use Rattle.dsa_book.specs.declared.{event.{Event.{Event}, Step.{Step}}, answer.Reply.{Reply}}
 use Rattle.dsa_device.specs.Running.{Running, IsReplay, after_answer}
 use Rattle.dsa_shared.specs.Seat.{SeatLog, with_receipt, with_step}
 
--- a device that the lock may keep: the replay of its history, of these capabilities and this capacity (profile)
+-- a device that the lock may keep: the replay of its history, which did not begin anew, of these capabilities and this
+-- capacity (profile)
 pub record IsUnderLock (caps : Caps) (capacity : ℕ) (d : Running) : Type 0 where
+  pub not_anew : d.anew ≡ false
   pub replay : IsReplay d
   pub same_caps : d.caps ≡ caps
   pub same_capacity : d.capacity ≡ capacity

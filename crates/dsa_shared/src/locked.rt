@@ -38,7 +38,7 @@ pub struct Locked<S: EntryStore, L: Sharing> {
 }
 
 impl<S: EntryStore, L: Sharing> Model for Locked<S, L> {
-    ghost use Rattle.std.specs.Prelude.{◌≡◌, length};
+    ghost use Rattle.std.specs.Prelude.{◌≡◌, false, length};
     ghost use Rattle.dsa_device.specs.Running.{Running};
 
     ghost Value = { Running };
@@ -46,7 +46,8 @@ impl<S: EntryStore, L: Sharing> Model for Locked<S, L> {
     ghost view = { λ l. l.device };
 
     ghost invariant = { λ l. (l.ledger.total ≡ length l.device.history)
-        × (l.device.capacity ≡ L.capacity) × (l.device.caps ≡ L.caps) };
+        × (l.device.capacity ≡ L.capacity) × (l.device.caps ≡ L.caps)
+        × (l.device.anew ≡ false) };
 }
 
 // Makes a step of the device, and adds it to the ledger and to the receipts of the seat where the

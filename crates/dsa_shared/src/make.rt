@@ -1,6 +1,6 @@
 //! Making a shared device and its seats.
 
-ghost use Rattle.std.specs.Prelude.{◌≡◌, ◌+◌, ◌<◌, ◌≤◌, ◌↔◌, ◌^◌, ◌⊎◌, [], Some, IfOk, IfErr, length, vec_len, vec_capacity};
+ghost use Rattle.std.specs.Prelude.{◌≡◌, ◌+◌, ◌<◌, ◌≤◌, ◌↔◌, ◌^◌, ◌⊎◌, true, false, [], Some, IfOk, IfErr, length, vec_len, vec_capacity};
 ghost use Rattle.dsa_shared.specs.Seat.{AllFresh};
 
 use crate::blanks::{Blanks, Sharing};
@@ -25,6 +25,9 @@ pub enum ShareFault {
     /// The history of the device is not empty.
     #[error("the device has made a step")]
     NotFresh,
+    /// The history of the device began anew.
+    #[error("the history of the device began anew")]
+    BegunAnew,
     /// The memory of the seats was refused.
     #[error("out of memory")]
     OutOfMemory,
@@ -46,9 +49,10 @@ struct Rooms<L: Sharing, A: Allocator> {
 
 impl<S: EntryStore, L: Sharing> SharedDevice<S, L> {
     /// Shares a device that has made no step yet among `clients` clients, 1 to 64, its engines and
-    /// one administrator, with a seat for each. Takes room for as many receipts in each seat as the
-    /// history has for steps; no other call takes memory. Whatever the error, the device and the
-    /// blanks come back as they were, and what memory was taken is free again.
+    /// one administrator, with a seat for each. A device whose history began anew made steps, and
+    /// is not shared. Takes room for as many receipts in each seat as the history has for steps; no
+    /// other call takes memory. Whatever the error, the device and the blanks come back as they
+    /// were, and what memory was taken is free again.
     pub fn new<A: Allocator + Copy>(
         alloc: A,
         device: Device<S>,
@@ -61,18 +65,24 @@ impl<S: EntryStore, L: Sharing> SharedDevice<S, L> {
         ensures clients { IfOk result (λ r. AllFresh clients r.1.clients.items) }
         ensures engines { IfOk result (λ r. AllFresh device.caps.engines r.1.engines.items) }
         ensures admin { IfOk result (λ r. r.1.admin ≡ Some []) }
-        ensures fresh { IfOk result (λ r. (0 < clients) × (clients ≤ 64) × (device.history ≡ [])) }
+        ensures fresh { IfOk result (λ r. (0 < clients) × (clients ≤ 64) × (device.history ≡ [])
+            × (device.anew ≡ false)) }
         ensures back { IfErr result (λ e. (e.1 ≡ device) × (e.2 ≡ blanks)) }
         ensures bad_clients { IfErr result (λ e. (e.0 ≡ ShareFault.BadClients)
             ↔ ((clients ≡ 0) ⊎ (64 < clients))) }
         ensures not_fresh { IfErr result (λ e. (e.0 ≡ ShareFault.NotFresh)
             ↔ ((0 < clients) × (clients ≤ 64) × (0 < length device.history))) }
+        ensures begun_anew { IfErr result (λ e. (e.0 ≡ ShareFault.BegunAnew)
+            ↔ ((0 < clients) × (clients ≤ 64) × (device.history ≡ []) × (device.anew ≡ true))) }
     {
         if clients == 0 || clients > 64 {
             return Err((ShareFault::BadClients, device, blanks));
         }
         if !device.history().is_empty() {
             return Err((ShareFault::NotFresh, device, blanks));
+        }
+        if device.is_anew() {
+            return Err((ShareFault::BegunAnew, device, blanks));
         }
         device.state_is_replay();
         let engines = device.caps().engines;

@@ -1,6 +1,6 @@
 //! Settling: the seats are taken back, and the receipts of each are compared with the history.
 
-ghost use Rattle.std.specs.Prelude.{◌≡◌, ◌≢◌, ◌+◌, ℕ, ◌↔◌, ◌≤◌, ◌^◌, true, IsSome, IfOk, OnOk, IfErr, length, sum_by};
+ghost use Rattle.std.specs.Prelude.{◌≡◌, ◌≢◌, ◌+◌, ℕ, ◌↔◌, ◌≤◌, ◌^◌, true, false, IsSome, IfOk, OnOk, IfErr, length, sum_by};
 ghost use Rattle.dsa_store.specs.Content.{held_count};
 ghost use Rattle.dsa_laws.specs.WellFormed.{IsWellFormed};
 ghost use Rattle.dsa_accounts.specs.Accounts.{submitted_entries, member_entries, only_members_abandoned};
@@ -93,6 +93,7 @@ impl<S: EntryStore, L: Sharing> SharedDevice<S, L> {
         ensures balance { IfOk result (λ s. Balance s.totals s.device.state.work) }
         ensures caps { IfOk result (λ s. s.device.caps ≡ L.caps) }
         ensures capacity { IfOk result (λ s. s.device.capacity ≡ L.capacity) }
+        ensures not_anew { IfOk result (λ s. s.device.anew ≡ false) }
         ensures replay { IfOk result (λ s. IsReplay s.device) }
         ensures well_formed { IfOk result (λ s. IsWellFormed s.device.caps s.device.state) }
         ensures missing { IfErr result (λ e. (e.fault ≡ SettleFault.SeatMissing)
@@ -138,6 +139,7 @@ fn finish<S: EntryStore, L: Sharing, A: Allocator>(
         L.clients L.caps.engines }
     requires matched { Match locked.history seats.clients.items seats.engines.items seats.admin }
     ensures device { result.device ≡ locked }
+    ensures not_anew { locked.anew ≡ false }
     ensures replay { IsReplay locked }
     ensures well_formed { IsWellFormed locked.caps locked.state }
     ensures caps { locked.caps ≡ L.caps }

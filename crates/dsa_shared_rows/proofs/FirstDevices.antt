@@ -6,6 +6,7 @@ use Rattle.dsa_shared.specs.Locked.{IsUnderLock}
 
 pub kept_at_first : (capacity : ℕ) → capacity ≤ 2 ^ 20 → IsUnderLock caps capacity (running_at_first caps capacity)
 kept_at_first capacity bounded = record {
+  not_anew = refl;
   replay = record { caps = refl; bounded = omega (arith, bounded); within = omega arith; legal = refl; replayed = refl };
   same_caps = refl;
   same_capacity = refl;

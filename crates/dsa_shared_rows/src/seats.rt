@@ -1,6 +1,6 @@
 //! Seats, devices under the lock, and what settling finds.
 
-ghost use Rattle.std.specs.Prelude.{◌≡◌, ℕ, [], ◌∷◌, Some, None, length, map};
+ghost use Rattle.std.specs.Prelude.{◌≡◌, ℕ, [], ◌∷◌, true, Some, None, length, map};
 ghost use Rattle.dsa_regs.specs.Worked.{caps, largest};
 ghost use Rattle.dsa_book.specs.declared.answer.Cause.TheVariants.{AtLimit};
 ghost use Rattle.dsa_book.specs.declared.answer.FinishAnswer.TheVariants.{Done};
@@ -67,6 +67,7 @@ pub fn lists_that_differ()
 /// Devices that a lock may keep, and what is read of some such device.
 pub fn devices_under_a_lock()
     ensures kept { IsUnderLock caps 5 (running_at_first caps 5) }
+    ensures begun_anew { ¬ IsUnderLock caps 5 (record (running_at_first caps 5) { anew = true }) }
     ensures no_replay { ¬ IsUnderLock caps 1048577 (running_at_first caps 1048577) }
     ensures other_caps { ¬ IsUnderLock largest 5 (running_at_first caps 5) }
     ensures other_capacity { ¬ IsUnderLock caps 6 (running_at_first caps 5) }

@@ -14,7 +14,7 @@ use Rattle.dsa_event_text.specs.Text.{command_with_operand, phase_word}
 use Rattle.dsa_trace.specs.declared.form.{Trace.{Trace, TheVariants.{Table, Json, Changes}}, Part.{Part}, Items.{Items}}
 use Rattle.dsa_trace.specs.declared.form.Items.TheVariants.{Queues, Engines, Groups}
 use Rattle.dsa_trace.specs.declared.form.Part.TheVariants as part
-use Rattle.dsa_trace.specs.{Marks.{mark, comma, pad}, Names.{names_part}, Notes.{batch_part}, Errors.{error_part}}
+use Rattle.dsa_trace.specs.{Marks.{mark, comma, pad}, Names.{names_array}, Notes.{batch_part}, Errors.{error_part}}
 
 -- a number behind its mark
 abbrev pub marked : Trace → Part → ℕ → List ℕ
@@ -75,13 +75,13 @@ engine_text form caps engine taken left =
 
 -- the names of the entries that wait in a queue, the front first, and the end of its column
 abbrev pub waiting_text : Trace → List HeldEntry → List ℕ
-waiting_text form entries = names_part form part.Waiting entries ++ mark form part.ObjectEnd
+waiting_text form entries = names_array form part.Waiting entries ++ mark form part.ObjectEnd
 
 -- the names of what an engine has in progress, the oldest first, and of the members of its batch that have not ended,
 -- what is noted of the batch, and the end of the engine's column
 abbrev pub work_text : Trace → List HeldEntry → List HeldEntry → Option BatchNote → List ℕ
 work_text form taken left note =
-    names_part form part.Names taken ++ names_part form part.MemberNames left ++ batch_part form note
+    names_array form part.Names taken ++ names_array form part.MemberNames left ++ batch_part form note
     ++ mark form part.ObjectEnd
 
 -- how many read buffers are reserved for a group; a row does not show it

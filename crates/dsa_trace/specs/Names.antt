@@ -17,9 +17,9 @@ entry_names_text [] = []
 entry_names_text (pair ∷ pairs) = decimal pair.1.name ++ flat_map further_name pairs
 
 -- an array of the names behind its mark; a row has them elsewhere (profile)
-abbrev pub names_part : Trace → Part → List HeldEntry → List ℕ
-names_part Json part pairs = mark Json part ++ entry_names_text pairs ++ mark Json NamesEnd
-names_part _ part pairs = []
+abbrev pub names_array : Trace → Part → List HeldEntry → List ℕ
+names_array Json part pairs = mark Json part ++ entry_names_text pairs ++ mark Json NamesEnd
+names_array _ part pairs = []
 
 -- in a row, behind a bar, a list with the names of the entries that it has, where it has any (profile)
 abbrev pub list_names : ListUse → List HeldEntry → List ℕ

@@ -3,7 +3,7 @@
 ghost use Rattle.std.specs.Prelude.{flat_map};
 ghost use Rattle.dsa_event_text.specs.Added.{Adds};
 ghost use Rattle.dsa_trace.specs.Names.{bracketed_names, entry_names_text, further_name};
-ghost use Rattle.dsa_trace.specs.Names.{list_names, names_part};
+ghost use Rattle.dsa_trace.specs.Names.{list_names, names_array};
 
 use crate::form::{Part, Trace, add_mark};
 use dsa_event_text::{Added, add_list, add_number};
@@ -28,7 +28,7 @@ pub fn add_names<S: EntryStore>(
     part: Part,
     entries: Walk<'_, S>,
 ) -> Added
-    ensures { Adds result text.old text.new (names_part form part entries.entry) }
+    ensures { Adds result text.old text.new (names_array form part entries.entry) }
 {
     match form {
         Trace::Table | Trace::Wide | Trace::Changes => Ok(()),

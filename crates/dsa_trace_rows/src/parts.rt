@@ -9,7 +9,7 @@ ghost use Rattle.dsa_trace.specs.Columns.{command_text, engine_text, group_text,
 ghost use Rattle.dsa_trace.specs.Columns.{item_count, phase_text, queue_text};
 ghost use Rattle.dsa_trace.specs.declared.form.Part.TheVariants.{DevicePhase, MemberNames, Names};
 ghost use Rattle.dsa_trace.specs.declared.form.Part.TheVariants.{Waiting};
-ghost use Rattle.dsa_trace.specs.Names.{entry_names_text, list_names, names_part};
+ghost use Rattle.dsa_trace.specs.Names.{entry_names_text, list_names, names_array};
 ghost use Rattle.dsa_trace.specs.Notes.{batch_members, batch_part};
 ghost use Rattle.dsa_regs.specs.declared.Phase.TheVariants.{Off, On, Stopping};
 ghost use Rattle.dsa_regs.specs.Config.{zero_group};
@@ -72,16 +72,16 @@ pub fn names()
     ensures one { entry_names_text (traced_entry 42 None 1 false ∷ []) ≡ codes "42" }
     ensures three { entry_names_text (traced_entry 42 None 1 false ∷ traced_entry 7 None 1 true
         ∷ traced_entry 50 (Some 7) 1 true ∷ []) ≡ codes "42,7,50" }
-    ensures table { names_part Table Waiting (traced_entry 42 None 1 false ∷ []) ≡ [] }
+    ensures table { names_array Table Waiting (traced_entry 42 None 1 false ∷ []) ≡ [] }
     ensures no_column { list_names (Members 3) [] ≡ [] }
     ensures column { list_names (Members 3) (traced_entry 42 None 1 false ∷ [])
         ≡ codes " | batch of e3 [42]" }
     ensures long_column { list_names (Queue 12) (traced_entry 42 None 1 false
         ∷ traced_entry 7 None 1 true ∷ traced_entry 50 (Some 7) 1 true ∷ [])
         ≡ codes " | q12 [42,7,50]" }
-    ensures queue { names_part Json Waiting (traced_entry 42 None 1 false ∷ [])
+    ensures queue { names_array Json Waiting (traced_entry 42 None 1 false ∷ [])
         ≡ codes ",\"waiting\":[42]" }
-    ensures engine { names_part Json Names [] ++ names_part Json MemberNames []
+    ensures engine { names_array Json Names [] ++ names_array Json MemberNames []
         ≡ codes ",\"names\":[],\"member_names\":[]" }
 {}
 

@@ -17,3 +17,4 @@ pub mod Statements
 pub mod Changes
 pub mod Lawful
 pub mod Steady
+pub mod Anew

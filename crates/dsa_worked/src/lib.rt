@@ -2,6 +2,7 @@
 //! part of it a wrong answer may not come.
 #![tactic(auto)]
 
+pub mod anew;
 pub mod answers;
 pub mod batches;
 pub mod beside;

@@ -1,13 +1,11 @@
 //! Statements of the laws, each with a state of which it is true, and one that breaks each of its
 //! clauses.
 
-ghost use Rattle.std.specs.Prelude.{◌≡◌, [], ◌∷◌, None, true, false, replicate, take, vec_capacity, vec_len};
+ghost use Rattle.std.specs.Prelude.{◌≡◌, [], ◌∷◌, None, true, false, replicate, take};
 ghost use Rattle.dsa_regs.specs.Caps.{HasList};
 ghost use Rattle.dsa_regs.specs.declared.layout.ListUse.TheVariants.{Queue, Progress, Members};
 ghost use Rattle.dsa_store.specs.Content.{StandsAt};
-ghost use Rattle.dsa_book.specs.Room.{HasRoom};
 ghost use Rattle.dsa_book.specs.State.{opening_setup};
-ghost use Rattle.dsa_book.specs.declared.book.Book.TheInside.{Inside};
 ghost use Rattle.dsa_queues.specs.Queues.{IsWholeSetup, IsStoreFor, IsKept, IsCounted};
 ghost use Rattle.dsa_accounts.specs.BatchCounts.{AddsUp, HasEnded};
 ghost use Rattle.dsa_worked.specs.Setup.{no_op, held_entry};
@@ -95,20 +93,4 @@ pub fn members_of_an_ended_batch()
     ensures more_than_there_are { ¬ HasEnded (work_with two_abandoned []) 0 2 }
     ensures one_is_held { ¬ HasEnded (work_with two_done third_held) 0 2 }
     ensures one_is_aborted { ¬ HasEnded (work_with one_aborted []) 0 2 }
-{}
-
-/// A book has room: no more steps and rows than its capacity, and memory for so many of each.
-pub fn room_of_books()
-    ensures full { (b : Inside) → vec_len b.history ≡ 5 → vec_len b.fates ≡ 5 → b.capacity ≡ 5
-        → vec_capacity b.history ≡ 5 → vec_capacity b.fates ≡ 5 → HasRoom b }
-    ensures room_for_more { (b : Inside) → vec_len b.history ≡ 3 → vec_len b.fates ≡ 4
-        → b.capacity ≡ 5 → vec_capacity b.history ≡ 6 → vec_capacity b.fates ≡ 7 → HasRoom b }
-    ensures too_many_steps { (b : Inside) → vec_len b.history ≡ 6 → vec_len b.fates ≡ 4
-        → b.capacity ≡ 5 → vec_capacity b.history ≡ 8 → vec_capacity b.fates ≡ 7 → ¬ HasRoom b }
-    ensures too_many_rows { (b : Inside) → vec_len b.history ≡ 3 → vec_len b.fates ≡ 6
-        → b.capacity ≡ 5 → vec_capacity b.history ≡ 8 → vec_capacity b.fates ≡ 7 → ¬ HasRoom b }
-    ensures no_memory_for_a_step { (b : Inside) → vec_len b.history ≡ 3 → vec_len b.fates ≡ 2
-        → b.capacity ≡ 5 → vec_capacity b.history ≡ 4 → vec_capacity b.fates ≡ 7 → ¬ HasRoom b }
-    ensures no_memory_for_a_row { (b : Inside) → vec_len b.history ≡ 3 → vec_len b.fates ≡ 2
-        → b.capacity ≡ 5 → vec_capacity b.history ≡ 6 → vec_capacity b.fates ≡ 4 → ¬ HasRoom b }
 {}

@@ -1,5 +1,5 @@
 -- What a call was answered, and how a history shows that it may be answered so.
-use Rattle.std.proofs.Common.{◌≡◌, ℕ, ◌≤◌, ◌^◌, true, List, length, Option, Some, None, refl, sym, ap, subst}
+use Rattle.std.proofs.Common.{◌≡◌, ℕ, ◌≤◌, ◌^◌, true, false, List, length, Option, Some, None, refl, sym, ap, subst}
 use Rattle.std.proofs.lemmas.Bool.{and_parts}
 use Rattle.std.specs.Prelude.{IsTrue, is_some, unwrap_or}
 use Rattle.dsa_regs.specs.{declared.Caps.{Caps}, Caps.{check_caps}}
@@ -25,8 +25,10 @@ answer_has P caps capacity receipts event reply full each is =
 abbrev pub device_of : Caps → ℕ → List Step → Running
 device_of caps capacity history = record {
   caps = caps;
+  room = capacity;
   capacity = capacity;
   history = history;
+  anew = false;
   state = unwrap_or (replay caps history) (opening caps);
 }
 
@@ -44,6 +46,7 @@ answered_after caps capacity receipts history event reply sound bounded within l
       d,
       unwrap_or (after_answer d event reply) d,
       record {
+        not_anew = refl;
         replay = record {
           caps = sound;
           bounded = bounded;

@@ -1,6 +1,6 @@
 //! A program on a shared device, from making its seats to settling them.
 
-ghost use Rattle.std.specs.Prelude.{◌≡◌, ◌+◌, ◌<◌, ◌≤◌, ◌↔◌, ◌⊎◌, IfOk, IfErr, length};
+ghost use Rattle.std.specs.Prelude.{◌≡◌, ◌+◌, ◌<◌, ◌≤◌, ◌↔◌, ◌⊎◌, true, false, [], IfOk, IfErr, length};
 ghost use Rattle.std.specs.Fork.{AcceptsEach, ChangesEach};
 ghost use Rattle.dsa_store.specs.Content.{held_count};
 ghost use Rattle.dsa_laws.specs.WellFormed.{IsWellFormed};
@@ -69,12 +69,15 @@ pub fn run_program<S: EntryStore + Send, P: Program + Sync, R: Threads + Wait + 
         (λ s. s.totals ≡ totals_of s.device.history (held_count s.device.state.work.content)) }
     ensures balance { IfOk result (λ s. Balance s.totals s.device.state.work) }
     ensures caps { IfOk result (λ s. s.device.caps ≡ device.caps) }
+    ensures not_anew { IfOk result (λ s. s.device.anew ≡ false) }
     ensures replay { IfOk result (λ s. IsReplay s.device) }
     ensures well_formed { IfOk result (λ s. IsWellFormed s.device.caps s.device.state) }
     ensures bad_clients { (result ≡ Err (ProgramFault.NotShared ShareFault.BadClients device))
         ↔ ((clients ≡ 0) ⊎ (64 < clients)) }
     ensures not_fresh { (result ≡ Err (ProgramFault.NotShared ShareFault.NotFresh device))
         ↔ ((0 < clients) × (clients ≤ 64) × (0 < length device.history)) }
+    ensures begun_anew { (result ≡ Err (ProgramFault.NotShared ShareFault.BegunAnew device))
+        ↔ ((0 < clients) × (clients ≤ 64) × (device.history ≡ []) × (device.anew ≡ true)) }
     ensures back { (f : _) (d : _) → result ≡ Err (ProgramFault.NotShared f d) → d ≡ device }
 {
     run_as::<S, Brand, P, R>(rt, alloc, device, Blanks::new(), clients, program)
@@ -100,12 +103,15 @@ fn run_as<
         (λ s. s.totals ≡ totals_of s.device.history (held_count s.device.state.work.content)) }
     ensures balance { IfOk result (λ s. Balance s.totals s.device.state.work) }
     ensures caps { IfOk result (λ s. s.device.caps ≡ device.caps) }
+    ensures not_anew { IfOk result (λ s. s.device.anew ≡ false) }
     ensures replay { IfOk result (λ s. IsReplay s.device) }
     ensures well_formed { IfOk result (λ s. IsWellFormed s.device.caps s.device.state) }
     ensures bad_clients { (result ≡ Err (ProgramFault.NotShared ShareFault.BadClients device))
         ↔ ((clients ≡ 0) ⊎ (64 < clients)) }
     ensures not_fresh { (result ≡ Err (ProgramFault.NotShared ShareFault.NotFresh device))
         ↔ ((0 < clients) × (clients ≤ 64) × (0 < length device.history)) }
+    ensures begun_anew { (result ≡ Err (ProgramFault.NotShared ShareFault.BegunAnew device))
+        ↔ ((0 < clients) × (clients ≤ 64) × (device.history ≡ []) × (device.anew ≡ true)) }
     ensures back { (f : _) (d : _) → result ≡ Err (ProgramFault.NotShared f d) → d ≡ device }
 {
     match SharedDevice::<S, L>::new(alloc, device, blanks, clients) {

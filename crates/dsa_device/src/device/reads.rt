@@ -1,6 +1,6 @@
 //! What a device tells of itself.
 
-ghost use Rattle.std.specs.Prelude.{◌≡◌, ◌≤◌, ◌==◌, nat_lt, find, length};
+ghost use Rattle.std.specs.Prelude.{◌≡◌, ◌≤◌, ◌==◌, false, nat_lt, find, length};
 ghost use Rattle.dsa_regs.specs.Caps.{cell_count};
 ghost use Rattle.dsa_regs.specs.Config.{queue_at, group_at};
 ghost use Rattle.std.specs.Option.{option_map};
@@ -10,7 +10,8 @@ ghost use Rattle.dsa_book.specs.State.{occupancy, phase_at};
 ghost use Rattle.dsa_book.specs.Work.{used, note_at};
 ghost use Rattle.dsa_admin.specs.Admin.{is_awaited_by};
 ghost use Rattle.dsa_laws.specs.WellFormed.{IsWellFormed};
-ghost use Rattle.dsa_device.specs.Running.{IsReplay};
+ghost use Rattle.dsa_laws.specs.Forgotten.{IsLawful};
+ghost use Rattle.dsa_device.specs.Running.{HasPast, IsReplay};
 ghost use Rattle.dsa_device.specs.Reads.{awaited, is_held};
 
 use super::Device;
@@ -26,7 +27,22 @@ impl<S: EntryStore> Device<S> {
         self.caps
     }
 
-    /// For how many steps the history has room.
+    /// For how many steps the device took memory: the capacity that it was made with.
+    pub fn room(&self) -> u64
+        ensures { result ≡ self.now.room }
+    {
+        self.book.room() as u64
+    }
+
+    /// Whether the history began anew.
+    pub fn is_anew(&self) -> bool
+        ensures { result ≡ self.now.anew }
+    {
+        self.book.is_anew()
+    }
+
+    /// How many steps the history may have. That is less than `room` only where fewer names were
+    /// left when the history began anew.
     pub fn capacity(&self) -> u64
         ensures { result ≡ self.now.capacity }
     {
@@ -197,8 +213,8 @@ impl<S: EntryStore> Device<S> {
         self.book.fates()
     }
 
-    /// What became of the entry of that name. `None` exactly while it is held, or no entry has the
-    /// name.
+    /// What became of the entry of that name. `None` exactly while it is held, no entry has the
+    /// name, or its fate was forgotten.
     pub fn fate(&self, name: u32) -> Option<Fate>
         ensures { result
             ≡ option_map (λ row. row.fate)
@@ -207,12 +223,15 @@ impl<S: EntryStore> Device<S> {
         self.book.fate(name).map(|row| row.fate)
     }
 
-    /// What holds of every device, for a caller to name: its history is a legal one within its
-    /// capacity, its state is what the machine comes to by that history, and so it is well formed.
-    /// The call does nothing.
+    /// What holds of every device, for a caller to name. A history that did not begin anew is a
+    /// legal one within its capacity, the state is what the machine comes to by it, and so is well
+    /// formed. Of any other the same holds with the steps before it and the fates that were
+    /// forgotten. The call does nothing.
     pub fn state_is_replay(&self)
-        ensures replay { IsReplay self.now }
-        ensures well_formed { IsWellFormed self.now.caps self.now.state }
+        ensures replay { self.now.anew ≡ false → IsReplay self.now }
+        ensures well_formed { self.now.anew ≡ false → IsWellFormed self.now.caps self.now.state }
+        ensures past { HasPast self.now }
+        ensures lawful { IsLawful self.now.caps self.now.state }
     {
         let _book = &self.book;
     }

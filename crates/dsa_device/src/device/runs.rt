@@ -1,8 +1,8 @@
 //! A step of any event, and lists of events.
 
-ghost use Rattle.std.specs.Prelude.{◌≡◌, Some, OnOk, OnErr};
+ghost use Rattle.std.specs.Prelude.{◌≡◌, false, Some, OnOk, OnErr};
 ghost use Rattle.dsa_device.specs.Running.{after_answer};
-ghost use Rattle.dsa_device.specs.Runs.{IsRunOf};
+ghost use Rattle.dsa_device.specs.Runs.{IsAnswered, IsRunOf};
 
 use super::Device;
 use dsa_book::{Event, Reply, Step};
@@ -43,6 +43,9 @@ impl<S: EntryStore> Device<S> {
     /// vector takes the memory for them first; where that is refused, nothing has changed.
     pub fn run(&mut self, events: &[Event], steps: &mut Vec<Step>) -> Result<(), AllocError>
         ensures ok { OnOk result
+            (IsAnswered self.old events.now steps.old.items steps.new.items self.new) }
+        ensures run { self.old.anew ≡ false
+            → OnOk result
             (IsRunOf self.old events.now steps.old.items steps.new.items self.new) }
         ensures err { OnErr result ((self.new ≡ self.old) × (steps.new.items ≡ steps.old.items)) }
     {

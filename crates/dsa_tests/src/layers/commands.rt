@@ -21,8 +21,9 @@ const BOTH: QueueMask = QueueMask { group: 0, mask: 3 };
 
 // The book has room for a row of each entry that is held.
 fn has_room<S: EntryStore>(store: &S, book: &Book) -> bool
+    requires { book.now.row_room ≡ book.now.capacity }
     ensures { result ≡ true
-        → length book.now.fates + held_count (S.content store.now) ≤ book.now.capacity }
+        → length book.now.fates + held_count (S.content store.now) ≤ book.now.row_room }
 {
     let rows = book.fates().len();
     let held = (store.cells() - store.free()) as usize;
@@ -59,7 +60,9 @@ fn parts_of<S: EntryStore>(
     store: S,
     book: Book,
 ) -> Parts<S>
-    ensures { AllAgree result.queues result.engines result.admin (S.cells result.store)
+    requires { book.row_room ≡ book.capacity }
+    ensures { AllAgree result.queues result.engines result.admin result.book
+        (S.cells result.store)
         (S.content result.store) }
 {
     let queues = written(rt, groups);
@@ -74,9 +77,11 @@ fn parts_of<S: EntryStore>(
 
 // The command is issued, once it is seen that the book has room.
 fn issue<S: EntryStore>(rt: &impl Abort, parts: &mut Parts<S>, command: Command) -> IssueAnswer
-    requires { AllAgree parts.old.queues parts.old.engines parts.old.admin (S.cells parts.old.store)
+    requires { AllAgree parts.old.queues parts.old.engines parts.old.admin parts.old.book
+        (S.cells parts.old.store)
         (S.content parts.old.store) }
-    ensures { AllAgree parts.new.queues parts.new.engines parts.new.admin (S.cells parts.new.store)
+    ensures { AllAgree parts.new.queues parts.new.engines parts.new.admin parts.new.book
+        (S.cells parts.new.store)
         (S.content parts.new.store) }
 {
     let Parts {
@@ -92,9 +97,11 @@ fn issue<S: EntryStore>(rt: &impl Abort, parts: &mut Parts<S>, command: Command)
 
 // The commands are issued in turn, each with its answer.
 fn issue_each<S: EntryStore>(rt: &impl Abort, parts: &mut Parts<S>, rows: &[(Command, IssueAnswer)])
-    requires { AllAgree parts.old.queues parts.old.engines parts.old.admin (S.cells parts.old.store)
+    requires { AllAgree parts.old.queues parts.old.engines parts.old.admin parts.old.book
+        (S.cells parts.old.store)
         (S.content parts.old.store) }
-    ensures { AllAgree parts.new.queues parts.new.engines parts.new.admin (S.cells parts.new.store)
+    ensures { AllAgree parts.new.queues parts.new.engines parts.new.admin parts.new.book
+        (S.cells parts.new.store)
         (S.content parts.new.store) }
 {
     for (command, answer) in rows {
@@ -109,9 +116,11 @@ fn push<S: EntryStore>(
     queue: u16,
     desc: Descriptor,
 ) -> Ticket
-    requires { AllAgree parts.old.queues parts.old.engines parts.old.admin (S.cells parts.old.store)
+    requires { AllAgree parts.old.queues parts.old.engines parts.old.admin parts.old.book
+        (S.cells parts.old.store)
         (S.content parts.old.store) }
-    ensures { AllAgree parts.new.queues parts.new.engines parts.new.admin (S.cells parts.new.store)
+    ensures { AllAgree parts.new.queues parts.new.engines parts.new.admin parts.new.book
+        (S.cells parts.new.store)
         (S.content parts.new.store) }
 {
     assert!(rt; parts.queues.device() == Phase::On);
@@ -137,9 +146,11 @@ fn push<S: EntryStore>(
 
 // The moves are pushed in turn, each to a queue with a PASID.
 fn push_each<S: EntryStore>(rt: &impl Abort, parts: &mut Parts<S>, entries: &[(u16, u32)])
-    requires { AllAgree parts.old.queues parts.old.engines parts.old.admin (S.cells parts.old.store)
+    requires { AllAgree parts.old.queues parts.old.engines parts.old.admin parts.old.book
+        (S.cells parts.old.store)
         (S.content parts.old.store) }
-    ensures { AllAgree parts.new.queues parts.new.engines parts.new.admin (S.cells parts.new.store)
+    ensures { AllAgree parts.new.queues parts.new.engines parts.new.admin parts.new.book
+        (S.cells parts.new.store)
         (S.content parts.new.store) }
 {
     for (queue, pasid) in entries {
@@ -161,9 +172,11 @@ fn abort_each<S: EntryStore>(
     parts: &mut Parts<S>,
     rows: &[(Command, u32, [u32; 2])],
 )
-    requires { AllAgree parts.old.queues parts.old.engines parts.old.admin (S.cells parts.old.store)
+    requires { AllAgree parts.old.queues parts.old.engines parts.old.admin parts.old.book
+        (S.cells parts.old.store)
         (S.content parts.old.store) }
-    ensures { AllAgree parts.new.queues parts.new.engines parts.new.admin (S.cells parts.new.store)
+    ensures { AllAgree parts.new.queues parts.new.engines parts.new.admin parts.new.book
+        (S.cells parts.new.store)
         (S.content parts.new.store) }
 {
     for (command, aborted, left) in rows {
@@ -175,7 +188,9 @@ fn abort_each<S: EntryStore>(
 
 // An abort of one PASID takes out its entries of both queues, and a reset keeps the sizes and the
 // next name.
-fn aborted<S: EntryStore>(rt: &impl Abort, store: S, book: Book) {
+fn aborted<S: EntryStore>(rt: &impl Abort, store: S, book: Book)
+    requires { book.row_room ≡ book.capacity }
+{
     const ENABLES: [(Command, IssueAnswer); 3] = [
         (Command::EnableDevice, ENDED),
         (Command::EnableWq(0), ENDED),

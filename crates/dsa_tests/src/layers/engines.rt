@@ -132,8 +132,10 @@ fn end<S: EntryStore>(
     ticket: Ticket,
     outcome: Outcome,
 ) -> FinishAnswer
-    requires { Agree queues.old engines.old (S.cells store.old) (S.content store.old) }
-    ensures { Agree queues.new engines.new (S.cells store.new) (S.content store.new) }
+    requires agree { Agree queues.old engines.old (S.cells store.old) (S.content store.old) }
+    requires rows { book.old.row_room ≡ book.old.capacity }
+    ensures agree { Agree queues.new engines.new (S.cells store.new) (S.content store.new) }
+    ensures rows { book.new.row_room ≡ book.new.capacity }
 {
     see_places(rt, queues, store);
     see_order(rt, queues, store);
@@ -166,7 +168,9 @@ fn idle<S: EntryStore>(rt: &impl Abort, queues: &Queues, engines: &mut Engines, 
 }
 
 // The first of two entries needs all buffers of the group: the second waits for its end.
-fn one_runs_at_a_time<S: EntryStore>(rt: &impl Abort, store: &mut S, book: &mut Book) {
+fn one_runs_at_a_time<S: EntryStore>(rt: &impl Abort, store: &mut S, book: &mut Book)
+    requires { book.old.row_room ≡ book.old.capacity }
+{
     let mut queues = enabled(rt, GROUPS);
     let mut engines = enabled_engines(rt, &queues, store);
     idle(rt, &queues, &mut engines, store);
@@ -189,7 +193,8 @@ fn first_ends<S: EntryStore>(
     book: &mut Book,
     ticket: Ticket,
 )
-    requires { Agree queues.old engines.old (S.cells store.old) (S.content store.old) }
+    requires agree { Agree queues.old engines.old (S.cells store.old) (S.content store.old) }
+    requires rows { book.old.row_room ≡ book.old.capacity }
     ensures { Agree queues.new engines.new (S.cells store.new) (S.content store.new) }
 {
     const ROW: FateRow = FateRow {

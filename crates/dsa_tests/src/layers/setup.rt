@@ -18,7 +18,9 @@ pub fn store(rt: &impl Abort, alloc: Global) -> PlainStore {
 }
 
 /// A book with room for so many steps.
-pub fn book(rt: &impl Abort, alloc: Global, capacity: usize) -> Book {
+pub fn book(rt: &impl Abort, alloc: Global, capacity: usize) -> Book
+    ensures { result.row_room ≡ result.capacity }
+{
     Book::new(alloc, capacity).expect(rt, "memory for a book")
 }
 

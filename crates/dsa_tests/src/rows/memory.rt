@@ -1,10 +1,11 @@
 //! What a store and a device do where memory is refused.
 
 use crate::rows::stores::middle_is_taken;
-use dsa_book::Step;
+use dsa_book::{PastFates, Step};
 use dsa_cells::LinkedStore;
 use dsa_device::{Device, MakeFault};
 use dsa_fixtures::{CAPS, CELLS, ENABLED, LISTS};
+use dsa_regs::Phase;
 use dsa_store::{EntryStore, PlainStore};
 use linked_list_allocator::LocalHeap;
 use std::alloc::{AllocError, Global};
@@ -116,12 +117,31 @@ fn runs_over<S: EntryStore>(
     Ok(())
 }
 
+// Begins the history anew. Where that is refused memory, the device is as it was, and it goes the
+// next time.
+fn anew_over<S: EntryStore>(
+    rt: &impl Abort,
+    device: &mut Device<S>,
+    past: PastFates,
+) -> Result<(), AllocError> {
+    let (stored, began) = (device.history().len(), device.is_anew());
+    if device.begin_anew(past).is_ok() {
+        return Ok(());
+    }
+    claim!(rt; (device.history().len(), device.is_anew()) == (stored, began));
+    claim!(rt; (device.capacity(), device.phase()) == (16, Phase::On));
+    device.begin_anew(past)
+}
+
 // These calls take the global allocator, which no test can replace: docs/PERFORMANCE.md says how
 // each request is refused.
 fn device_runs<S: EntryStore>(rt: &impl Abort, alloc: Global, store: S) -> Result<(), Fail> {
     let mut device = device_over(rt, alloc, store)?;
     let mut steps = Vec::new(alloc);
     runs_over(rt, &mut device, &mut steps)?;
+    anew_over(rt, &mut device, PastFates::Kept)?;
+    anew_over(rt, &mut device, PastFates::Forgotten)?;
+    claim!(rt; device.history().is_empty());
     Ok(())
 }
 

@@ -15,19 +15,23 @@ use dsa_store::{Cell, EntryStore, PlainStore};
 use std::alloc::Global;
 use std::process::Abort;
 
-const DISPATCH: Event = Event::Dispatch { engine: 0 };
+/// The first engine asks for an entry.
+pub const DISPATCH: Event = Event::Dispatch { engine: 0 };
 
-const FETCH: Event = Event::Fetch {
+/// It hands in a member of its batch.
+pub const FETCH: Event = Event::Fetch {
     engine: 0,
     desc: NO_OP,
 };
 
-const START: Event = Event::Start { engine: 0 };
+/// It starts a member.
+pub const START: Event = Event::Start { engine: 0 };
 
 /// Abort PASID, of PASID 5.
 const ABORT_WORD: u32 = 12_582_917;
 
-fn submission(pasid: u32, desc: Descriptor) -> Event {
+/// An ENQCMD to the shared queue.
+pub fn submission(pasid: u32, desc: Descriptor) -> Event {
     Event::Submit {
         client: 0,
         queue: 0,
@@ -45,11 +49,13 @@ fn finish(ticket: Ticket) -> Event {
     }
 }
 
-fn plain_store(rt: &impl Abort, alloc: Global) -> PlainStore {
+/// A store of vectors for the small device.
+pub fn plain_store(rt: &impl Abort, alloc: Global) -> PlainStore {
     plain(rt, alloc, LISTS, CELLS)
 }
 
-fn linked_store(rt: &impl Abort, alloc: Global) -> LinkedStore {
+/// The same over linked cells.
+pub fn linked_store(rt: &impl Abort, alloc: Global) -> LinkedStore {
     linked(rt, alloc, LISTS, CELLS)
 }
 
@@ -64,8 +70,8 @@ fn ticket_in(reply: Reply) -> Option<Ticket> {
     }
 }
 
-// The ticket that the device's step gives.
-fn given<S: EntryStore>(rt: &impl Abort, device: &mut Device<S>, event: Event) -> Ticket {
+/// The ticket that the device's step gives.
+pub fn given<S: EntryStore>(rt: &impl Abort, device: &mut Device<S>, event: Event) -> Ticket {
     ticket_in(device.step(event)).expect(rt, "a ticket")
 }
 
@@ -209,8 +215,8 @@ fn batch_runs<S: EntryStore>(
     [first, second]
 }
 
-// The entry ends with that answer.
-fn ends<S: EntryStore>(
+/// The entry ends with that answer.
+pub fn ends<S: EntryStore>(
     rt: &impl Abort,
     device: &mut Device<S>,
     ticket: Ticket,

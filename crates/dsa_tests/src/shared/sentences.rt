@@ -22,6 +22,8 @@ fn faults(rt: HostRuntime) {
         ShareFault::NotFresh,
         "the device has made a step",
     );
+    let anew = "the history of the device began anew";
+    reads(&rt, alloc, ShareFault::BegunAnew, anew);
     reads(&rt, alloc, ShareFault::OutOfMemory, "out of memory");
     let missing = "a seat is missing, or there are two of it";
     reads(&rt, alloc, SettleFault::SeatMissing, missing);

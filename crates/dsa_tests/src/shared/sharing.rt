@@ -2,7 +2,8 @@
 
 ghost use Rattle.std.specs.Prelude.{◌≡◌};
 
-use dsa_book::WriteAnswer;
+use crate::rows::anew::anew;
+use dsa_book::{PastFates, WriteAnswer};
 use dsa_cells::LinkedStore;
 use dsa_device::Device;
 use dsa_fixtures::{CAPS, CELLS, LISTS, SHARED_QUEUE};
@@ -123,6 +124,33 @@ fn device_with_a_step(rt: HostRuntime) {
     let table = [
         (0, Err(ShareFault::BadClients)),
         (65, Err(ShareFault::BadClients)),
+        (1, Err(ShareFault::NotFresh)),
+    ];
+    are_refused(&rt, alloc, device, &table);
+}
+
+#[test]
+fn device_that_began_anew(rt: HostRuntime) {
+    let alloc = rt.alloc();
+    let mut device = over_cells(&rt, alloc);
+    anew(&rt, &mut device, PastFates::Kept);
+    let table = [
+        (0, Err(ShareFault::BadClients)),
+        (65, Err(ShareFault::BadClients)),
+        (1, Err(ShareFault::BegunAnew)),
+        (64, Err(ShareFault::BegunAnew)),
+    ];
+    are_refused(&rt, alloc, device, &table);
+}
+
+#[test]
+fn device_with_a_step_since(rt: HostRuntime) {
+    let alloc = rt.alloc();
+    let mut device = over_vectors(&rt, alloc);
+    anew(&rt, &mut device, PastFates::Forgotten);
+    same!(&rt; device.write_queue(0, SHARED_QUEUE), WriteAnswer::Written);
+    let table = [
+        (0, Err(ShareFault::BadClients)),
         (1, Err(ShareFault::NotFresh)),
     ];
     are_refused(&rt, alloc, device, &table);

@@ -14,7 +14,7 @@ add_row-requires g c =
       arith,
       c.requires.room,
       ap (λ (r : Records). length r.fates) c.loop-held.invariant.rows,
-      ap (λ (r : Records). r.capacity) c.loop-held.invariant.rows,
+      ap (λ (r : Records). r.row_room) c.loop-held.invariant.rows,
       length-append c.args.book.now.fates (rows_of_abort c.args.command.now c.loop-held.yielded),
       rows-few c.args.command.now c.loop-held.yielded,
       ap length c.loop-held.invariant.parts,

@@ -86,14 +86,20 @@ returns-in-Some-report_asked-clause-range c =
     let named = c.in-Some-report_asked.ensures.some in
     in_range _ _ named.3
 
-pub returns-then-is_named-clause-faults : goal.returns-then-is_named-clause-faults
-returns-then-is_named-clause-faults c = well _ _ c.in_ok-command_line.ensures c.in_ok-matches.ensures.kinds
+pub returns-in-Some-subcommand_matches-clause-faults : goal.returns-in-Some-subcommand_matches-clause-faults
+returns-in-Some-subcommand_matches-clause-faults c = well _ _ c.in_ok-command_line.ensures c.in_ok-matches.ensures.kinds
 
-pub returns-then-is_named-clause-asked : goal.returns-then-is_named-clause-asked
-returns-then-is_named-clause-asked c =
+pub returns-in-Some-subcommand_matches-clause-asked : goal.returns-in-Some-subcommand_matches-clause-asked
+returns-in-Some-subcommand_matches-clause-asked c =
     let met = met _ _ _ c.in_ok-command_line.ensures c.in_ok-matches.ensures.matches in
-    let found = c.is_named.ensures.named c.if-is_named.true in
-    (returns-then-is_named-clause-faults c, ap (option_map (λ found. found.0)) (sym met ∙ found.1))
+    let given = c.in-Some-subcommand_matches.given.now in
+    let name = name-rows c.in_ok-matches.matches ∙ c.in-Some-subcommand_matches.ensures.found.0 refl in
+    let rows = some_pair (subcommand_rows_of c.in_ok-matches.matches) (codes "serve")
+    (rows_of (found_of given)) name c.in-Some-subcommand_matches.ensures.rows in (
+      rows_of (found_of given),
+      (returns-in-Some-subcommand_matches-clause-faults c, sym met ∙ rows),
+      c.written_in.ensures,
+    )
 
 pub returns-clause-faults : goal.returns-clause-faults
 returns-clause-faults c = well _ _ c.in_ok-command_line.ensures c.in_ok-matches.ensures.kinds
@@ -112,12 +118,13 @@ returns-clause-asked c name is named =
     let found = ap (option_map (λ found. found.0)) met ∙ named in
     elim is [
       | inl report ↦ c.in_default-report_asked.ensures.none name report found
-      | inr other ↦
-          elim other [
-            | inl serve ↦ c.is_named.ensures.other c.if-is_named.false (found ∙ ap Some serve)
-            | inr threads ↦
-                let none : false ≡ true =
-                c.in_default.ensures.found.1 (sym (name-rows c.in_ok-matches.matches) ∙ found ∙ ap Some threads) in
-                absurd cc
-          ]
+      | inr (inl serve) ↦
+          let none : false ≡ true =
+          c.in_default-subcommand_matches.ensures.found.1
+          (sym (name-rows c.in_ok-matches.matches) ∙ found ∙ ap Some serve) in
+          absurd cc
+      | inr (inr threads) ↦
+          let none : false ≡ true =
+          c.in_default.ensures.found.1 (sym (name-rows c.in_ok-matches.matches) ∙ found ∙ ap Some threads) in
+          absurd cc
     ]

@@ -1,24 +1,22 @@
 use Rattle.dsa_cli.proofs.rows.asked.Goals as goal
-use Rattle.std.proofs.Common.{◌≡◌, ◌∙◌, List, [], codes, Option, Some, unwrap_or, option_map}
+use Rattle.std.proofs.Common.{◌≡◌, ◌⊎◌, ◌∙◌, List, [], ◌∷◌, codes, Option, Some, unwrap_or}
 use Rattle.std.proofs.Common.{inl, inr, refl, sym}
 use Rattle.std.proofs.Common.{ap, subst, arith, lit≤, lit<}
 use Rattle.std.specs.Str.Parse.{IsNumeral}
 use Rattle.std.specs.Prelude.{option_and_then}
 use Rattle.clap.specs.Walk.{Row, Text, first_of, one_of}
 use Rattle.dsa_chosen.specs.Words.{unknown_word}
-use Rattle.clap.specs.declared.error.kind.ErrorKind.TheVariants.{UnknownArgument}
+use Rattle.clap.specs.declared.error.kind.ErrorKind.{ErrorKind, TheVariants.{DisplayHelp, DisplayVersion, UnknownArgument}}
 use Rattle.clap.proofs.OnLiterals.{clap_on_literals}
 use Rattle.dsa_cli.specs.declared.options.WrongValue.TheVariants.{Answer}
-use Rattle.dsa_cli.specs.{CommandLine.{IsReportName}, Worked.{load, lent_text}}
-use Rattle.dsa_cli.proofs.Choices.{first_given, first_left_out, when_given, when_left_out}
+use Rattle.clap.specs.Kinds.{IsAmong}
+use Rattle.dsa_cli.specs.{CommandLine.{IsMistaken, IsReportName, faults_of_words}, Worked.{load, lent_text}}
+use Rattle.dsa_cli.proofs.Choices.{first_given, first_left_out, lines_form, table_form, when_given, when_left_out}
 use Rattle.dsa_cli.proofs.DecidedLoads.{said_numbers}
 use Rattle.dsa_cli.proofs.LinesChosen.{none_chosen, says_given}
-use Rattle.dsa_cli.proofs.ReportNames.{same_first, no_report}
+use Rattle.dsa_cli.proofs.ReportNames.{name_in, same_first, no_report}
 
--- the name of a command, and the text of an option
-abbrev name_in : Option (Text × List Row) → Text
-name_in found = unwrap_or (option_map (λ (p : Text × List Row). p.0) found) []
-
+-- the text of an option
 abbrev option_in : Text → Option (Text × List Row) → Option Text
 option_in name found = option_and_then (λ (p : Text × List Row). one_of name p.1) found
 
@@ -36,11 +34,8 @@ returns-clause-help_is_scenario c name is same =
     let help : codes "help" ≡ name = ap (λ o. unwrap_or o []) same in
     elim is [
       | inl report ↦ no_report (codes "help") (lit< tt) (lit< tt) (subst (λ n. IsReportName n) (sym help) report)
-      | inr rest ↦
-          elim rest [
-            | inl serve ↦ omega (arith, same_first (help ∙ serve))
-            | inr threads ↦ omega (arith, same_first (help ∙ threads))
-          ]
+      | inr (inl serve) ↦ omega (arith, same_first (help ∙ serve))
+      | inr (inr threads) ↦ omega (arith, same_first (help ∙ threads))
     ]
 
 pub returns-clause-no_scenario : goal.returns-clause-no_scenario
@@ -64,58 +59,25 @@ returns-clause-threshold_at_the_size c asks = omega (arith, asks.1)
 
 pub returns-clause-check : goal.returns-clause-check
 unfolding clap_on_literals
-returns-clause-check c = (
-  _,
-  (refl, refl, inl refl),
-  (
-    refl,
-    record {
-      strict = when_left_out refl;
-      form = first_left_out refl (first_left_out refl (first_left_out refl refl));
-    },
-  ),
-)
+returns-clause-check c =
+    (_, (refl, refl, inl refl), (refl, record { strict = when_left_out refl; form = lines_form refl refl refl }))
 
 pub returns-clause-strict_check : goal.returns-clause-strict_check
 unfolding clap_on_literals
-returns-clause-strict_check c = (
-  _,
-  (refl, refl, inl refl),
-  (
-    refl,
-    record {
-      strict = when_given refl;
-      form = first_left_out refl (first_left_out refl (first_left_out refl refl));
-    },
-  ),
-)
+returns-clause-strict_check c =
+    (_, (refl, refl, inl refl), (refl, record { strict = when_given refl; form = lines_form refl refl refl }))
 
 pub returns-clause-json_check : goal.returns-clause-json_check
 unfolding clap_on_literals
-returns-clause-json_check c = (
-  _,
-  (refl, refl, inl refl),
-  (
-    refl,
-    record {
-      strict = when_left_out refl;
-      form = first_given refl;
-    },
-  ),
-)
+returns-clause-json_check c =
+    (_, (refl, refl, inl refl), (refl, record { strict = when_left_out refl; form = first_given refl }))
 
 pub returns-clause-colored_check : goal.returns-clause-colored_check
 unfolding clap_on_literals
 returns-clause-colored_check c = (
   _,
   (refl, refl, inl refl),
-  (
-    refl,
-    record {
-      strict = when_left_out refl;
-      form = first_left_out refl (first_given refl);
-    },
-  ),
+  (refl, record { strict = when_left_out refl; form = first_left_out refl (first_given refl) }),
 )
 
 pub returns-clause-no_plain_check : goal.returns-clause-no_plain_check
@@ -134,19 +96,11 @@ returns-clause-no_strict_check c asks =
 
 pub returns-clause-explain : goal.returns-clause-explain
 unfolding clap_on_literals
-returns-clause-explain c = (
-  _,
-  (refl, refl, inr (inl refl)),
-  (refl, none_chosen _ refl refl refl, when_left_out refl),
-)
+returns-clause-explain c = (_, (refl, refl, inr (inl refl)), (refl, none_chosen _ refl refl refl, when_left_out refl))
 
 pub returns-clause-seen_explain : goal.returns-clause-seen_explain
 unfolding clap_on_literals
-returns-clause-seen_explain c = (
-  _,
-  (refl, refl, inr (inl refl)),
-  (refl, none_chosen _ refl refl refl, when_given refl),
-)
+returns-clause-seen_explain c = (_, (refl, refl, inr (inl refl)), (refl, none_chosen _ refl refl refl, when_given refl))
 
 pub returns-clause-chosen : goal.returns-clause-chosen
 unfolding clap_on_literals
@@ -224,11 +178,13 @@ returns-clause-no_seen_draw c asks =
 
 pub returns-clause-conform : goal.returns-clause-conform
 unfolding clap_on_literals
-returns-clause-conform c = (_, (refl, refl, inr (inr (inr (inr (inr (inl refl)))))), (refl, when_left_out refl, when_left_out refl))
+returns-clause-conform c =
+    (_, (refl, refl, inr (inr (inr (inr (inr (inl refl)))))), (refl, when_left_out refl, when_left_out refl))
 
 pub returns-clause-conform_all : goal.returns-clause-conform_all
 unfolding clap_on_literals
-returns-clause-conform_all c = (_, (refl, refl, inr (inr (inr (inr (inr (inl refl)))))), (refl, when_given refl, when_left_out refl))
+returns-clause-conform_all c =
+    (_, (refl, refl, inr (inr (inr (inr (inr (inl refl)))))), (refl, when_given refl, when_left_out refl))
 
 pub returns-clause-friendly : goal.returns-clause-friendly
 unfolding clap_on_literals
@@ -253,7 +209,11 @@ returns-clause-changes c = (
 
 pub returns-clause-serve : goal.returns-clause-serve
 unfolding clap_on_literals
-returns-clause-serve c = (refl, refl)
+returns-clause-serve c = (_, (refl, refl), when_left_out refl)
+
+pub returns-clause-friendly_serve : goal.returns-clause-friendly_serve
+unfolding clap_on_literals
+returns-clause-friendly_serve c = (_, (refl, refl), when_given refl)
 
 pub returns-clause-serve_is_no_scenario : goal.returns-clause-serve_is_no_scenario
 unfolding clap_on_literals
@@ -265,19 +225,13 @@ returns-clause-draw_is_no_scenario c other = other (codes "draw") (inl (inr (inr
 
 pub returns-clause-trace : goal.returns-clause-trace
 unfolding clap_on_literals
-returns-clause-trace c = (
-  _,
-  (refl, refl, inr (inr (inl refl))),
-  (refl, first_left_out refl (first_left_out refl (first_left_out refl (first_left_out refl refl))), when_left_out refl),
-)
+returns-clause-trace c =
+    (_, (refl, refl, inr (inr (inl refl))), (refl, table_form refl refl refl refl, when_left_out refl))
 
 pub returns-clause-seen_trace : goal.returns-clause-seen_trace
 unfolding clap_on_literals
-returns-clause-seen_trace c = (
-  _,
-  (refl, refl, inr (inr (inl refl))),
-  (refl, first_left_out refl (first_left_out refl (first_left_out refl (first_left_out refl refl))), when_given refl),
-)
+returns-clause-seen_trace c =
+    (_, (refl, refl, inr (inr (inl refl))), (refl, table_form refl refl refl refl, when_given refl))
 
 pub returns-clause-json : goal.returns-clause-json
 unfolding clap_on_literals
@@ -301,35 +255,31 @@ pub returns-clause-mistaken : goal.returns-clause-mistaken
 unfolding clap_on_literals
 returns-clause-mistaken c = inl (UnknownArgument, inl refl, (λ same. cc), (λ same. cc))
 
-pub returns-clause-help : goal.returns-clause-help
-unfolding clap_on_literals
-returns-clause-help c mistake =
+-- to ask for help or for the version, and for nothing else, is no mistake
+asks_only : (words : List Text) (kind : ErrorKind) → faults_of_words words ≡ kind ∷ []
+    → (kind ≡ DisplayHelp) ⊎ (kind ≡ DisplayVersion) → ¬ IsMistaken words
+asks_only words kind is which mistake =
     elim mistake [
       | inl found ↦
-          elim found.1 [
-            | inl help ↦ found.2 help
+          elim (subst (IsAmong found.0) is found.1) [
+            | inl same ↦
+                elim which [
+                  | inl help ↦ found.2 (same ∙ help)
+                  | inr version ↦ found.3 (same ∙ version)
+                ]
             | inr none ↦ none
           ]
-      | inr wrong ↦ elim wrong [
-        | inl high ↦ let none = high.1.0.1.0 in cc
-        | inr unknown ↦ let none = unknown.1.1.0 in cc
-      ]
+      | inr (inl high) ↦ let none = sym high.1.0.1.0 ∙ is in cc
+      | inr (inr unknown) ↦ let none = sym unknown.1.1.0 ∙ is in cc
     ]
+
+pub returns-clause-help : goal.returns-clause-help
+unfolding clap_on_literals
+returns-clause-help c = asks_only (codes "--help" ∷ []) DisplayHelp refl (inl refl)
 
 pub returns-clause-version : goal.returns-clause-version
 unfolding clap_on_literals
-returns-clause-version c mistake =
-    elim mistake [
-      | inl found ↦
-          elim found.1 [
-            | inl version ↦ found.3 version
-            | inr none ↦ none
-          ]
-      | inr wrong ↦ elim wrong [
-        | inl high ↦ let none = high.1.0.1.0 in cc
-        | inr unknown ↦ let none = unknown.1.1.0 in cc
-      ]
-    ]
+returns-clause-version c = asks_only (codes "--version" ∷ []) DisplayVersion refl (inr refl)
 
 pub returns-clause-other_report : goal.returns-clause-other_report
 unfolding clap_on_literals
@@ -355,10 +305,8 @@ unfolding clap_on_literals
 returns-clause-none c mistake =
     elim mistake [
       | inl found ↦ found.1
-      | inr wrong ↦ elim wrong [
-        | inl high ↦ let none = high.1.0.1.1 in cc
-        | inr unknown ↦ let none = unknown.1.1.1 in cc
-      ]
+      | inr (inl high) ↦ let none = high.1.0.1.1 in cc
+      | inr (inr unknown) ↦ let none = unknown.1.1.1 in cc
     ]
 
 pub returns-clause-understood : goal.returns-clause-understood
@@ -378,27 +326,12 @@ unfolding clap_on_literals
 returns-clause-not_understood c understood =
     elim understood [
       | inl none ↦ cc
-      | inr asks ↦
-          elim asks [
-            | inl help ↦
-                elim help [
-                  | inl first ↦ cc
-                  | inr rest ↦
-                      elim rest [
-                        | inl second ↦ cc
-                        | inr none ↦ none
-                      ]
-                ]
-            | inr version ↦
-                elim version [
-                  | inl first ↦ cc
-                  | inr rest ↦
-                      elim rest [
-                        | inl second ↦ cc
-                        | inr none ↦ none
-                      ]
-                ]
-          ]
+      | inr (inl (inl first)) ↦ cc
+      | inr (inl (inr (inl second))) ↦ cc
+      | inr (inl (inr (inr none))) ↦ none
+      | inr (inr (inl first)) ↦ cc
+      | inr (inr (inr (inl second))) ↦ cc
+      | inr (inr (inr (inr none))) ↦ none
     ]
 
 pub returns-clause-nothing_named : goal.returns-clause-nothing_named

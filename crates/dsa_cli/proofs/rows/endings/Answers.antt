@@ -67,11 +67,8 @@ returns-clause-ended c out old new unclosed taken is =
 
 pub returns-clause-first_line_refused : goal.returns-clause-first_line_refused
 returns-clause-first_line_refused c had left old new is =
-    is.1 (λ late. elim late [
+    is.2.1 (λ late. elim late [
       | inl read ↦ cc
-      | inr rest ↦
-          elim rest [
-            | inl write ↦ cc
-            | inr memory ↦ cc
-          ]
+      | inr (inl write) ↦ cc
+      | inr (inr memory) ↦ cc
     ])

@@ -1,12 +1,7 @@
 use Rattle.dsa_cli.proofs.rows.named_commands.Goals as goal
-use Rattle.std.proofs.Common.{[], codes, List, Option, unwrap_or, option_map, inl, inr, refl, lit<}
-use Rattle.std.proofs.Common.{ap, arith}
-use Rattle.clap.{proofs.OnLiterals.{clap_on_literals}, specs.Walk.{Row, Text}}
-use Rattle.dsa_cli.proofs.ReportNames.{same_first, no_report}
-
--- the name of a command
-abbrev name_in : Option (Text × List Row) → Text
-name_in found = unwrap_or (option_map (λ (p : Text × List Row). p.0) found) []
+use Rattle.std.proofs.Common.{codes, inl, inr, refl, lit<, ap, arith}
+use Rattle.clap.proofs.OnLiterals.{clap_on_literals}
+use Rattle.dsa_cli.proofs.ReportNames.{name_in, same_first, no_report}
 
 pub returns-clause-count : goal.returns-clause-count
 unfolding clap_on_literals
@@ -41,11 +36,11 @@ returns-clause-draw_is_something c named = let same = named.1 in cc
 
 pub returns-clause-help_with_serve : goal.returns-clause-help_with_serve
 unfolding clap_on_literals
-returns-clause-help_with_serve c named = let same = named.0 in cc
+returns-clause-help_with_serve c rows named = let same = named.0 in cc
 
 pub returns-clause-no_serve : goal.returns-clause-no_serve
 unfolding clap_on_literals
-returns-clause-no_serve c named = let same = named.1 in cc
+returns-clause-no_serve c rows named = let same = named.1 in cc
 
 pub returns-clause-no_input_for_threads : goal.returns-clause-no_input_for_threads
 unfolding clap_on_literals

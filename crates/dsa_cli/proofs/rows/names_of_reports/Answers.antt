@@ -3,7 +3,8 @@ use Rattle.std.proofs.Common.{codes, Option, inl, inr, refl, lit<, ap, arith}
 use Rattle.std.specs.Option.{option_map_or}
 use Rattle.dsa_draw.specs.declared.range.StepRange.{StepRange}
 use Rattle.clap.proofs.OnLiterals.{clap_on_literals}
-use Rattle.dsa_cli.proofs.{Choices.{first_given, first_left_out, when_given, when_left_out}, LinesChosen.{none_chosen}}
+use Rattle.dsa_cli.proofs.Choices.{first_given, first_left_out, lines_form, table_form, when_given, when_left_out}
+use Rattle.dsa_cli.proofs.LinesChosen.{none_chosen}
 use Rattle.dsa_cli.proofs.ReportNames.{same_first, no_report}
 
 pub returns-clause-check : goal.returns-clause-check
@@ -36,59 +37,31 @@ returns-clause-expand c = inr (inr (inr (inr (inr (inr refl)))))
 
 pub returns-clause-asks_check : goal.returns-clause-asks_check
 unfolding clap_on_literals
-returns-clause-asks_check c = (
-  refl,
-  record {
-    strict = when_left_out refl;
-    form = first_left_out refl (first_left_out refl (first_left_out refl refl));
-  },
-)
+returns-clause-asks_check c = (refl, record { strict = when_left_out refl; form = lines_form refl refl refl })
 
 pub returns-clause-asks_strict_check : goal.returns-clause-asks_strict_check
 unfolding clap_on_literals
-returns-clause-asks_strict_check c = (
-  refl,
-  record {
-    strict = when_given refl;
-    form = first_left_out refl (first_left_out refl (first_left_out refl refl));
-  },
-)
+returns-clause-asks_strict_check c = (refl, record { strict = when_given refl; form = lines_form refl refl refl })
 
 pub returns-clause-asks_json_check : goal.returns-clause-asks_json_check
 unfolding clap_on_literals
-returns-clause-asks_json_check c = (
-  refl,
-  record {
-    strict = when_left_out refl;
-    form = first_given refl;
-  },
-)
+returns-clause-asks_json_check c = (refl, record { strict = when_left_out refl; form = first_given refl })
 
 pub returns-clause-asks_source : goal.returns-clause-asks_source
 unfolding clap_on_literals
 returns-clause-asks_source c = (
   refl,
-  record {
-    strict = when_left_out refl;
-    form = first_left_out refl (first_left_out refl (first_given refl));
-  },
+  record { strict = when_left_out refl; form = first_left_out refl (first_left_out refl (first_given refl)) },
 )
 
 pub returns-clause-asks_color : goal.returns-clause-asks_color
 unfolding clap_on_literals
-returns-clause-asks_color c = (
-  refl,
-  record {
-    strict = when_left_out refl;
-    form = first_left_out refl (first_given refl);
-  },
-)
+returns-clause-asks_color c =
+    (refl, record { strict = when_left_out refl; form = first_left_out refl (first_given refl) })
 
 pub returns-clause-no_source : goal.returns-clause-no_source
 unfolding clap_on_literals
-returns-clause-no_source c asked =
-    let same = ((asked.1.form.left_out refl).left_out refl).given refl in
-    cc
+returns-clause-no_source c asked = let same = ((asked.1.form.left_out refl).left_out refl).given refl in cc
 
 pub returns-clause-no_strict_check : goal.returns-clause-no_strict_check
 unfolding clap_on_literals
@@ -100,8 +73,7 @@ returns-clause-no_plain_check c asked = let same = asked.1.strict.given refl in 
 
 pub returns-clause-asks_trace : goal.returns-clause-asks_trace
 unfolding clap_on_literals
-returns-clause-asks_trace c =
-    (refl, first_left_out refl (first_left_out refl (first_left_out refl (first_left_out refl refl))), when_left_out refl)
+returns-clause-asks_trace c = (refl, table_form refl refl refl refl, when_left_out refl)
 
 pub returns-clause-asks_chrome : goal.returns-clause-asks_chrome
 unfolding clap_on_literals
@@ -128,8 +100,7 @@ returns-clause-asks_seen_json c = (refl, first_left_out refl (first_given refl),
 
 pub returns-clause-asks_explain : goal.returns-clause-asks_explain
 unfolding clap_on_literals
-returns-clause-asks_explain c =
-    (refl, none_chosen _ refl refl refl, when_left_out refl)
+returns-clause-asks_explain c = (refl, none_chosen _ refl refl refl, when_left_out refl)
 
 pub returns-clause-asks_draw : goal.returns-clause-asks_draw
 unfolding clap_on_literals
@@ -172,8 +143,7 @@ returns-clause-asks_changes c =
 
 pub returns-clause-asks_seen : goal.returns-clause-asks_seen
 unfolding clap_on_literals
-returns-clause-asks_seen c =
-    (refl, none_chosen _ refl refl refl, when_given refl)
+returns-clause-asks_seen c = (refl, none_chosen _ refl refl refl, when_given refl)
 
 pub returns-clause-no_own_run : goal.returns-clause-no_own_run
 unfolding clap_on_literals

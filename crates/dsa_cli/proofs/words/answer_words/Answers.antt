@@ -1,14 +1,19 @@
 use Rattle.dsa_cli.proofs.words.answer_words.Goals as goal
 use Rattle.dsa_cli.specs.declared.options.Asked.TheVariants as asked
 use Rattle.dsa_cli.specs.declared.threads.ThreadsFault.TheVariants as threads_fault
-use Rattle.std.proofs.Common.{◌≡◌, ◌∙◌, inl, inr, rules, subst, sym, ap, map, string_bytes, arith}
+use Rattle.std.proofs.Common.{◌≡◌, ◌∙◌, List, inl, inr, rules, subst, sym, ap, map, string_bytes, arith}
 use Rattle.clap.specs.{Values.{kind_of}, Kinds.{IsAmong}}
 use Rattle.dsa_scenario.specs.declared.faults.ScenarioFault.TheVariants.{OutOfMemory}
 use Rattle.dsa_scenario.specs.declared.watched.WatchedWriter.{WatchedWriter}
 use Rattle.dsa_scenario.specs.Watched.{watched_contents}
 use Rattle.dsa_serve.{specs.Dialogue.{IsStopped}, proofs.Stops.{unread_memory}}
+use Rattle.clap.specs.Walk.{Row, Text}
+use Rattle.dsa_cli.specs.declared.{options.Asked.{Asked}, reports.Written.{Written}}
+use Rattle.dsa_cli.specs.CommandLine.{IsServeStoppedIn, IsWrittenIn, NameServe, has_friendly_form}
+use Rattle.dsa_cli.proofs.Choices.{any_writing}
 use Rattle.dsa_cli.specs.{CommandLine.{AsksFor, IsAskedBy, wrong_value_text}, Endings.{IsRefusal}}
-use Rattle.dsa_cli.proofs.ReportCommands.{asks_high, asks_wrong, named, not_asked, other_name, same_found}
+use Rattle.dsa_cli.proofs.ReportCommands.{asks_high, asks_wrong, named, not_asked, other_name}
+use Rattle.dsa_cli.proofs.ReportCommands.{same_dialogue, same_found}
 use Rattle.dsa_cli.proofs.PlainRuns.{plain_written, plain_stopped}
 
 pub returns-in-Err-clause-mistake : goal.returns-in-Err-clause-mistake
@@ -95,11 +100,30 @@ returns-in-Err-clause-reports_failed g c one found named =
       | inr among ↦ absurd (subst (λ faults. IsAmong (kind_of c.in-Err.error) faults) named.0 among)
     ]
 
+-- a dialogue is written as the options that these words name say
+asks_dialogue : (words : List Text) (asks : Asked) (written : Written) → asks ≡ asked.Serve written
+    → AsksFor words asks → (rows : List Row) → NameServe words rows → IsWrittenIn rows written
+asks_dialogue words asks written is told rows named =
+    let by : AsksFor words (asked.Serve written) = subst (λ a. AsksFor words a) is told in
+    subst (λ r. IsWrittenIn r written) (same_dialogue words by.0 rows by.1 named) by.2
+
 pub returns-in-Ok-Serve-clause-serve_failed : goal.returns-in-Ok-Serve-clause-serve_failed
-returns-in-Ok-Serve-clause-serve_failed g c one named = c.serve_input.ensures.failed one
+returns-in-Ok-Serve-clause-serve_failed g c one rows named =
+    let asks = asks_dialogue (map string_bytes c.args.words.now) _ c.in-Ok-Serve.written c.in-Ok-Serve.field-0-is
+    c.in-Ok-Serve.ensures.asked rows named in
+    let told = c.serve_input.ensures.failed one in
+    (told.0, ((c.in-Ok-Serve.written, asks, told.1.0), told.1.1), told.2)
+
+pub returns-in-Ok-Serve-clause-serves : goal.returns-in-Ok-Serve-clause-serves
+returns-in-Ok-Serve-clause-serves g c zero rows named = (
+  c.in-Ok-Serve.written,
+  asks_dialogue (map string_bytes c.args.words.now) _ c.in-Ok-Serve.written c.in-Ok-Serve.field-0-is
+      c.in-Ok-Serve.ensures.asked rows named,
+  c.serve_input.ensures.done zero,
+)
 
 pub returns-in-Err-clause-serve_failed : goal.returns-in-Err-clause-serve_failed
-returns-in-Err-clause-serve_failed g c one named =
+returns-in-Err-clause-serve_failed g c one rows named =
     elim c.in-Err.ensures.faults [
       | inl memory ↦
           let kept = c.show.ensures.memory memory in
@@ -107,12 +131,13 @@ returns-in-Err-clause-serve_failed g c one named =
           let held = g.O.Write.contents c.args.out.now.writer.now in (
             OutOfMemory,
             (
-              (
-                subst (λ (w : WatchedWriter g.row.O.Denot). IsStopped OutOfMemory had had held
-                    (g.O.Write.contents w.writer.now))
-                    (sym kept.1) (unread_memory had held),
-                λ early. kept.1,
-              ),
+              any_writing rows (λ written. IsServeStoppedIn written OutOfMemory had had
+                  (watched_contents g.O.Write.contents) c.args.out.now c.show.new.out) (λ written. (
+                    subst (λ (w : WatchedWriter g.row.O.Denot). IsStopped (has_friendly_form written)
+                        OutOfMemory had had held (g.O.Write.contents w.writer.now))
+                        (sym kept.1) (unread_memory (has_friendly_form written) had held),
+                    λ early. kept.1,
+                  )),
               λ e. absurd cc,
             ),
             c.show.ensures.told memory,
@@ -131,33 +156,33 @@ returns-in-Ok-Scenario-clause-failed g c plain one =
 
 pub returns-in-Ok-Report-clause-done : goal.returns-in-Ok-Report-clause-done
 returns-in-Ok-Report-clause-done g c plain zero =
-    let read = c.in-Ok-Report.ensures in not_asked _ _ _ _ read.asked
-    (λ empty. let scenario = read.none empty in cc) c.in-Ok-Report.field-0-is (λ same. cc) plain
+    let read = c.in-Ok-Report.ensures in
+    not_asked _ _ _ _ read.asked read.none c.in-Ok-Report.field-0-is (λ same. cc) plain
 
 pub returns-in-Ok-Report-clause-failed : goal.returns-in-Ok-Report-clause-failed
 returns-in-Ok-Report-clause-failed g c plain one =
-    let read = c.in-Ok-Report.ensures in not_asked _ _ _ _ read.asked
-    (λ empty. let scenario = read.none empty in cc) c.in-Ok-Report.field-0-is (λ same. cc) plain
+    let read = c.in-Ok-Report.ensures in
+    not_asked _ _ _ _ read.asked read.none c.in-Ok-Report.field-0-is (λ same. cc) plain
 
 pub returns-in-Ok-Serve-clause-done : goal.returns-in-Ok-Serve-clause-done
 returns-in-Ok-Serve-clause-done g c plain zero =
-    let read = c.in-Ok-Serve.ensures in not_asked _ _ _ _ read.asked
-    (λ empty. let scenario = read.none empty in cc) c.in-Ok-Serve.field-0-is (λ same. cc) plain
+    let read = c.in-Ok-Serve.ensures in
+    not_asked _ _ _ _ read.asked read.none c.in-Ok-Serve.field-0-is (λ same. cc) plain
 
 pub returns-in-Ok-Serve-clause-failed : goal.returns-in-Ok-Serve-clause-failed
 returns-in-Ok-Serve-clause-failed g c plain one =
-    let read = c.in-Ok-Serve.ensures in not_asked _ _ _ _ read.asked
-    (λ empty. let scenario = read.none empty in cc) c.in-Ok-Serve.field-0-is (λ same. cc) plain
+    let read = c.in-Ok-Serve.ensures in
+    not_asked _ _ _ _ read.asked read.none c.in-Ok-Serve.field-0-is (λ same. cc) plain
 
 pub returns-in-Ok-Threads-clause-done : goal.returns-in-Ok-Threads-clause-done
 returns-in-Ok-Threads-clause-done g c plain zero =
-    let read = c.in-Ok-Threads.ensures in not_asked _ _ _ _ read.asked
-    (λ empty. let scenario = read.none empty in cc) c.in-Ok-Threads.field-0-is (λ same. cc) plain
+    let read = c.in-Ok-Threads.ensures in
+    not_asked _ _ _ _ read.asked read.none c.in-Ok-Threads.field-0-is (λ same. cc) plain
 
 pub returns-in-Ok-Threads-clause-failed : goal.returns-in-Ok-Threads-clause-failed
 returns-in-Ok-Threads-clause-failed g c plain one =
-    let read = c.in-Ok-Threads.ensures in not_asked _ _ _ _ read.asked
-    (λ empty. let scenario = read.none empty in cc) c.in-Ok-Threads.field-0-is (λ same. cc) plain
+    let read = c.in-Ok-Threads.ensures in
+    not_asked _ _ _ _ read.asked read.none c.in-Ok-Threads.field-0-is (λ same. cc) plain
 
 pub returns-in-Err-clause-done : goal.returns-in-Err-clause-done
 returns-in-Err-clause-done g c plain zero =

@@ -109,21 +109,26 @@ returns-clause-reports_failed g c one found named =
     )
 
 pub returns-clause-serves : goal.returns-clause-serves
-returns-clause-serves g c zero named =
-    let done = c.answer_words.ensures.serves zero named in
+returns-clause-serves g c zero rows named =
+    let done = c.answer_words.ensures.serves zero rows named in
     search (rules, done)
 
 pub returns-clause-serve_failed : goal.returns-clause-serve_failed
-returns-clause-serve_failed g c one named =
-    let told = c.answer_words.ensures.serve_failed one named in
-    let stopped = told.1.0.0 in (
+returns-clause-serve_failed g c one rows named =
+    let told = c.answer_words.ensures.serve_failed one rows named in
+    let by = told.1.0 in
+    let stopped = by.2.0 in (
       told.0,
       (
-        search (rules, stopped),
-        λ early.
-            let same : c.answer_words.new.out.writer.now ≡ c.args.out.now =
-            ap (λ watched. watched.writer.now) (told.1.0.1 early) ∙ c.new-out.ensures.writer in
-            search rules,
+        by.0,
+        by.1,
+        (
+          search (rules, stopped),
+          λ early.
+              let same : c.answer_words.new.out.writer.now ≡ c.args.out.now =
+              ap (λ watched. watched.writer.now) (by.2.1 early) ∙ c.new-out.ensures.writer in
+              search rules,
+        ),
       ),
     )
 

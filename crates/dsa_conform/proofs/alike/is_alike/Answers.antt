@@ -3,6 +3,7 @@ use Rattle.std.proofs.Common.{sym, subst, ap}
 use Rattle.dsa_regs.specs.Config.{group_at}
 use Rattle.dsa_book.specs.State.{Setup}
 use Rattle.dsa_laws.specs.WellFormed.{HasShape}
+use Rattle.dsa_device.proofs.Known.{shape_of}
 use Rattle.dsa_conform.proofs.Likeness.{alike, queue_alike, engine_alike}
 
 pub same_engines-requires : goal.same_engines-requires
@@ -45,9 +46,9 @@ returns-clause-alike g c h =
       capacity = histories.0;
       count = histories.1;
       states = alike c.args.first.now.caps c.args.first.now.state c.args.second.now.state
-          c.state_is_replay.ensures.well_formed.shape
+          (shape_of c.args.first.now c.state_is_replay.ensures.past)
           (subst (λ x. HasShape x c.args.second.now.state.work) (sym caps)
-          c.state_is_replay-2.ensures.well_formed.shape)
+          (shape_of c.args.second.now c.state_is_replay-2.ensures.past))
           (record {
             device = setups.0;
             next_name = setups.1;

@@ -9,8 +9,8 @@ pub returns-in-Some-clause-closest : goal.returns-in-Some-clause-closest
 returns-in-Some-clause-closest g c =
     let w = c.args.device.now.state.work in
     let found = rw c.in-Some.is at c.in_ok-queue.ensures in
-    let shown = shown_offer w c.args.engine c.in-Some.queue (seen_as c.args.seen.now) found.0 c.take-entry.result found.1
-    found.2 c.take-entry.ensures.offered in
+    let shown = shown_offer w c.args.engine c.in-Some.queue (seen_as c.args.seen.now) found.0
+    c.take-entry.result found.1 found.2 c.take-entry.ensures.offered in
     record {
       answers = ap answered_by (is_offer w c.args.engine c.in-Some.queue c.take-entry.result
           c.take-entry.ensures.offered).is;

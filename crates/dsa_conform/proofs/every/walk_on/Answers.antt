@@ -1,8 +1,8 @@
 use Rattle.dsa_conform.proofs.every.walk_on.Goals as goal
-use Rattle.std.proofs.Common.{◌≡◌, ◌<◌, ◌+◌, ◌++◌, ◌∙◌, List, ℕ, Bool, refl, sym, ap, subst, length, map, string_bytes}
+use Rattle.std.proofs.Common.{◌+◌, ◌++◌, ◌∙◌, List, ℕ, refl, sym, ap, subst, length, map, string_bytes}
 use Rattle.std.proofs.lemmas.List.{length-map}
 use Rattle.serde_json.specs.View.{view}
-use Rattle.dsa_conform.specs.{Every.{AreFoundDiffering}, Run.{AreRead, IsDiffering, IsVerdict}, Sights.{bared}}
+use Rattle.dsa_conform.specs.{Every.{AreFoundDiffering}, Run.{AreRead}, Sights.{bared}}
 use Rattle.dsa_conform.proofs.Bare.{length_bared}
 use Rattle.dsa_conform.proofs.Striking.{all_found, differs_within, first_found, more_found, none_differs, one_differs}
 
@@ -46,9 +46,6 @@ loop-before-preserved c =
     let capacity = c.args.head.now.capacity in
     let steps = map view c.args.head.now.steps.now in
     let old = bared c.loop-before.left_out.items steps in
-    let verdict : IsVerdict caps capacity old told.fault (string_bytes told.text) =
-    subst (λ (marks : List Bool). IsVerdict caps capacity (bared marks steps) told.fault (string_bytes told.text))
-    c.as_slice.ensures.value c.in_ok-verdict.ensures in
     let new = bared c.leave_out-in-loop-before.new.left_out.items steps in (
       subst (λ (text : List ℕ). AreFoundDiffering caps capacity steps c.args.first (c.loop-before.before + 1 + 1) text
           new)
@@ -56,8 +53,8 @@ loop-before-preserved c =
           ∙ ap (λ (l : List ℕ). string_bytes c.loop-before.text ++ l) c.as_str.ensures.value))
           (more_found caps capacity steps old new c.args.first (c.loop-before.before + 1) c.in-Some.number
           (string_bytes c.loop-before.text) (string_bytes told.text) c.loop-before.invariant.0
-          (one_differs caps capacity old told.fault c.in-Some.number (string_bytes told.text) verdict
-          c.in-Some.ensures)
+          (one_differs caps capacity old told.fault c.in-Some.number (string_bytes told.text)
+          (rw c.as_slice.ensures.value at c.in_ok-verdict.ensures) c.in-Some.ensures)
           (c.leave_out-in-loop-before.ensures.read steps)),
       c.leave_out-in-loop-before.ensures.as_many ∙ c.loop-before.invariant.1,
     )
@@ -67,12 +64,9 @@ returns-in_default c =
     let told = c.in_ok-verdict.verdict in
     let caps = c.args.head.now.caps in
     let capacity = c.args.head.now.capacity in
-    let steps = map view c.args.head.now.steps.now in
-    let left = bared c.loop-before.left_out.items steps in
-    let verdict : IsVerdict caps capacity left told.fault (string_bytes told.text) =
-    subst (λ (marks : List Bool). IsVerdict caps capacity (bared marks steps) told.fault (string_bytes told.text))
-    c.as_slice.ensures.value c.in_ok-verdict.ensures in
-    let none = none_differs caps capacity left told.fault (string_bytes told.text) verdict c.in_default.ensures in (
+    let left = bared c.loop-before.left_out.items (map view c.args.head.now.steps.now) in
+    let none = none_differs caps capacity left told.fault (string_bytes told.text)
+    (rw c.as_slice.ensures.value at c.in_ok-verdict.ensures) c.in_default.ensures in (
       refl,
       all_found caps capacity c.args.head.now.steps.now left c.args.first (c.loop-before.before + 1)
           c.count_seen.result (string_bytes c.loop-before.text) (string_bytes c.add_differs.new.text)

@@ -41,7 +41,7 @@ returns g c =
           (rw c.in_default.is at c.in_ok-queue.ensures),
       (
         first.0,
-        all_in (IsAllowed now (Ok (event.Dispatch c.args.engine))) (offers now.state.work c.args.engine) first.0 all.each
-            first.1,
+        all_in (IsAllowed now (Ok (event.Dispatch c.args.engine))) (offers now.state.work c.args.engine)
+            first.0 all.each first.1,
       ),
     )

@@ -8,5 +8,6 @@ use Rattle.dsa_conform.proofs.retelling.retell.Given as goal
 abbrev pub invariant-loop-i : goal.invariant-loop-i
 invariant-loop-i g l =
     (observed : List (Action × Seen)) → AreRead (map view l.head.steps.now) observed
-    → IsPageTo (g.D.RenderSteps.is_page l.what) l.head.caps l.head.capacity (seen_before l.count (take l.i observed)) l.i
+    → IsPageTo (g.D.RenderSteps.is_page l.what) l.head.caps l.head.capacity
+    (seen_before l.count (take l.i observed)) l.i
     l.way.device l.way.tickets.items l.page

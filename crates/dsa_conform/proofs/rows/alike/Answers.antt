@@ -49,4 +49,5 @@ returns-clause-word c = tt
 pub returns-clause-one : goal.returns-clause-one
 returns-clause-one c first second is also =
     subst (λ entry. AreSeenAlike first entry) (only_nothing second also)
-    (subst (λ entry. AreSeenAlike entry nothing) (only_nothing first is) (record { texts = refl; shown = λ seen. refl }))
+    (subst (λ entry. AreSeenAlike entry nothing) (only_nothing first is)
+    (record { texts = refl; shown = λ seen. refl }))

@@ -42,7 +42,8 @@ returns-clause-order c are =
 pub returns-clause-not_there : goal.returns-clause-not_there
 returns-clause-not_there c are =
     let P : Record → Type 0 = IsAllowed after_all (Ok (Dispatch 0)) in
-    let others = All-tail P from_second (from_third ∷ []) (All-tail P from_first (from_second ∷ from_third ∷ []) are.each) in
+    let others = All-tail P from_second (from_third ∷ [])
+    (All-tail P from_first (from_second ∷ from_third ∷ []) are.each) in
     let third = All-head P from_third [] others in
     let none = third.leads in
     absurd cc

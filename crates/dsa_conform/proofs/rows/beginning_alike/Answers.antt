@@ -7,7 +7,7 @@ use Rattle.std.specs.Fmt.{digits}
 use Rattle.dsa_book.specs.{declared.answer.NotedError.{NotedError}, State.{State}}
 use Rattle.dsa_device.specs.Running.{Running}
 use Rattle.dsa_scenario.specs.{declared.run.Record.{Record}, Steps.{standing}}
-use Rattle.dsa_explain_lines.specs.Parts.{event_part, part_of, room_part}
+use Rattle.dsa_explain_lines.specs.Parts.{event_part, full_part, part_of}
 use Rattle.dsa_conform.specs.{Allowed.{IsAllowed}, Lines.{allowed_line}}
 use Rattle.dsa_conform.specs.Worked.{caps_of_two_queues, cleared, records_of_one_error}
 use Rattle.dsa_conform.proofs.RowWays.{to_one}
@@ -29,7 +29,7 @@ not_a_space now = at (length now.history == now.capacity) now.state.work.setup.n
     at : (full : Bool) (noted : Option NotedError)
         → 32
         ≡ code_at 0
-        (cond full (room_part now.capacity) (event_part (with_noted now.state noted) event.ClearError) ++ codes "\n")
+        (cond full (full_part now) (event_part (with_noted now.state noted) event.ClearError) ++ codes "\n")
         → ⊥
     at true noted is =
         let none : 32 ≡ 58 = is in

@@ -99,7 +99,8 @@ pub returns-clause-all_lost : goal.returns-clause-all_lost
 returns-clause-all_lost c a are = are.all a (inl refl)
 
 pub returns-clause-on : goal.returns-clause-on
-returns-clause-on c t = (poll_covered (answered (codes "nothing")) t (way_at_first 9 t ∷ []) (inl refl), (nothing, is_nothing))
+returns-clause-on c t =
+    (poll_covered (answered (codes "nothing")) t (way_at_first 9 t ∷ []) (inl refl), (nothing, is_nothing))
 
 pub returns-clause-not_on : goal.returns-clause-not_on
 returns-clause-not_on c t on = not_alike t (on.0 nothing _ refl refl refl)

@@ -34,14 +34,16 @@ not_missed way is among =
     (standing caps_of_three_queues 9 (records_of_two_queues ++ from_second ∷ [])) d) is alike))
     among.0 among.1 among.2
   where
-    one_waits : AreDevicesAlike (standing caps_of_three_queues 9 (records_of_two_queues ++ from_second ∷ [])) after_a_take
+    one_waits : AreDevicesAlike (standing caps_of_three_queues 9 (records_of_two_queues ++ from_second ∷ []))
+        after_a_take
         → ⊥
     one_waits alike =
         let none : 1 ≡ 0 = ap waiting alike.states.entries in
         absurd (omega (arith, none))
 
 -- the run where it took from the second
-second_run : IsShownRun caps_of_three_queues 9 (take 9 observed_of_two_queues) (records_of_two_queues ++ from_second ∷ [])
+second_run : IsShownRun caps_of_three_queues 9 (take 9 observed_of_two_queues)
+    (records_of_two_queues ++ from_second ∷ [])
 second_run = record {
   of_actions = (refl, (refl, (refl, (refl, (refl, (refl, (refl, (refl, (refl, tt)))))))));
   run = refl;

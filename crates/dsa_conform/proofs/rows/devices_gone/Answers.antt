@@ -146,8 +146,8 @@ returns-clause-all_on c t before h = record {
   told = λ told none. absurd none;
   all = to_one
       (λ (way : Way). (k : IsFollowedTo smallest_caps 9 (rejected ∷ []) 1 way.device way.tickets.items)
-      × IsOneGone way.device (event_of k.records (Ask event.Poll)) (answered (codes "nothing")) (way_at_first 9 t ∷ []) [])
-      (way_at_first 9 t) (
+      × IsOneGone way.device (event_of k.records (Ask event.Poll)) (answered (codes "nothing"))
+      (way_at_first 9 t ∷ []) []) (way_at_first 9 t) (
         before,
         (record {
           covers = poll_covered (answered (codes "nothing")) t (way_at_first 9 t ∷ []) (inl refl);

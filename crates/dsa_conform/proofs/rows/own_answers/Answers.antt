@@ -32,7 +32,8 @@ returns-clause-none c = record {
 
 -- a poll that was answered with nothing shows it
 not_early : (records : List Record) → AreOf [] [] records
-    → ((here : Action × Seen) → slice_get (polled_with (answered (codes "nothing"))) 0 ≡ Some here → IsNext records here)
+    → ((here : Action × Seen) → slice_get (polled_with (answered (codes "nothing"))) 0 ≡ Some here
+    → IsNext records here)
     → ⊥
 unfolding digits
 not_early [] of next =

@@ -28,7 +28,8 @@ listed one other differ = record {
 
 -- a line is that of an answer that is allowed
 line_told : (entry : Record) (text why : String Global) (allowed : Vec Record Global) → In entry allowed.items
-    → string_bytes text ≡ allowed_line (string_bytes why) entry → IsLineOf (line_of entry text) (told_allowing why allowed)
+    → string_bytes text ≡ allowed_line (string_bytes why) entry
+    → IsLineOf (line_of entry text) (told_allowing why allowed)
 line_told entry text why allowed among is = (among, is)
 
 pub returns-clause-lower : goal.returns-clause-lower
@@ -153,7 +154,8 @@ returns-clause-left_out c why allowed is are =
     (are.all (told_allowing why allowed) (inl refl) from_first (subst (λ l. In from_first l) (sym is) (inl refl))).1
 
 -- a text with a line is of a device
-no_lines : (lines : List Line) → AreLinesTold [] lines → codes "a" ≡ difference_text 0 nothing_seen [] (map line_as lines) → ⊥
+no_lines : (lines : List Line) → AreLinesTold [] lines
+    → codes "a" ≡ difference_text 0 nothing_seen [] (map line_as lines) → ⊥
 no_lines [] are is = absurd cc
 no_lines (line ∷ lines) are is = (are.each line (inl refl)).1
 

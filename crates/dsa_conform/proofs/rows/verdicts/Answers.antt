@@ -51,15 +51,16 @@ only_full : (entry : Record) → IsAllowed filled (Ok event.Poll) entry → full
 only_full (Refused fault) is = absurd (let other = is.answers in cc)
 only_full (Stepped step) is = full_step step.event step.reply is.after is.answers is.leads
 
-only_written : (entry : Record) → IsAllowed (running_at_first smallest_caps 1) (Ok (event.WriteGroup 0 group_of_a_run)) entry
+only_written : (entry : Record) → IsAllowed (running_at_first smallest_caps 1)
+    (Ok (event.WriteGroup 0 group_of_a_run)) entry
     → written ≡ entry
 only_written entry is = only_entry (running_at_first smallest_caps 1) _ is.after (event.WriteGroup 0 group_of_a_run)
     (reply.Write Written) refl
     (λ b same. same) refl entry is.answers is.leads
 
 -- the write leads there alone
-write_leads : LeadTo smallest_caps 1 ((Ask (event.WriteGroup 0 group_of_a_run), nothing_seen) ∷ []) (Ask event.Poll) filled
-    (Ok event.Poll)
+write_leads : LeadTo smallest_caps 1 ((Ask (event.WriteGroup 0 group_of_a_run), nothing_seen) ∷ [])
+    (Ask event.Poll) filled (Ok event.Poll)
 write_leads [] after h = absurd h
 write_leads (r ∷ []) after h =
     let is : IsAllowed (running_at_first smallest_caps 1) (Ok (event.WriteGroup 0 group_of_a_run)) r =
@@ -74,8 +75,8 @@ unfolding digits
 returns-clause-after_one c =
     differs smallest_caps 1 ((Ask (event.WriteGroup 0 group_of_a_run), nothing_seen) ∷ [])
     (Ask event.Poll, answered (codes "nothing")) 1 filled (Ok event.Poll) full (written ∷ [])
-    (smallest_replay 1 (lit≤ tt)) (record { of_actions = (refl, tt); run = refl; shown = (refl, tt) }) write_leads is_full
-    only_full refl
+    (smallest_replay 1 (lit≤ tt)) (record { of_actions = (refl, tt); run = refl; shown = (refl, tt) })
+    write_leads is_full only_full refl
 
 -- ---- one that has made no step
 
@@ -86,13 +87,15 @@ returns-clause-second c = record {
   read = refl;
   here = _;
   at = refl;
-  differs = differs smallest_caps 9 ((Refuse no_command, nothing_seen) ∷ []) (Ask event.Poll, answered (codes "active")) 1
+  differs = differs smallest_caps 9 ((Refuse no_command, nothing_seen) ∷ [])
+      (Ask event.Poll, answered (codes "active")) 1
       smallest_device_at_first (Ok event.Poll) nothing (Refused no_command ∷ []) (smallest_replay 9 (lit≤ tt))
       (record { of_actions = (refl, tt); run = refl; shown = (refl, tt) }) word_leads is_nothing only_nothing refl;
 }
 
 -- a poll of which this was seen is a run
-poll_run : (seen : Seen) → shows seen nothing ≡ true → IsShownRun smallest_caps 9 ((Ask event.Poll, seen) ∷ []) (nothing ∷ [])
+poll_run : (seen : Seen) → shows seen nothing ≡ true → IsShownRun smallest_caps 9 ((Ask event.Poll, seen) ∷ [])
+    (nothing ∷ [])
 poll_run seen shown = record { of_actions = (refl, tt); run = refl; shown = (shown, tt) }
 
 pub returns-clause-shown : goal.returns-clause-shown

@@ -26,8 +26,16 @@ returns-in-Differs c = λ caps capacity done number named h.
     let asks = c.event_for-asked.ensures h.records (rw c.as_slice.ensures.value h.table) in
     let told : IsTold c.args.way.now.device c.event_for-asked.result (seen_as c.args.seen.now)
     (record { why = c.in_ok-why.why; against = c.in_ok-against.against; allowed = c.in-Differs.allowed }) =
-    record { why = c.in_ok-why.ensures; against = c.in_ok-against.ensures; all = f.0; some = f.2.0; is_some = f.2.1; none = f.1 } in (
+    record {
+      why = c.in_ok-why.ensures;
+      against = c.in_ok-against.ensures;
+      all = f.0;
+      some = f.2.0;
+      is_some = f.2.1;
+      none = f.1;
+    } in (
       tt,
       subst (λ q. IsTold c.args.way.now.device q (seen_as c.args.seen.now)
-          (record { why = c.in_ok-why.why; against = c.in_ok-against.against; allowed = c.in-Differs.allowed })) asks told,
+          (record { why = c.in_ok-why.why; against = c.in_ok-against.against; allowed = c.in-Differs.allowed }))
+          asks told,
     )

@@ -1,12 +1,11 @@
-use Rattle.std.proofs.Common.{◌≡◌, ◌≤◌, List, [], ◌∷◌, take}
+use Rattle.std.proofs.Common.{List, [], ◌∷◌, take}
 use Rattle.dsa_scenario.specs.declared.actions.Action.{Action}
-use Rattle.dsa_conform.specs.{Seen.{Seen}, Lines.{seen_count}, Run.{AreRead}, Sights.{steps_counted}}
-use Rattle.dsa_conform.specs.Ways.{AreFollowed}
+use Rattle.dsa_conform.specs.{Seen.{Seen}, Sights.{steps_counted}, Ways.{AreFollowed}}
+use Rattle.dsa_conform.proofs.Steps.{IsCountedTo}
 use Rattle.dsa_conform.proofs.walk.walk_counted.Given as goal
 
 -- the device alone may be the one that was seen so far, and so many answers were seen
 abbrev pub invariant-loop-i : goal.invariant-loop-i
 invariant-loop-i l =
-    (observed : List (Action × Seen)) × AreRead (steps_counted l.sights) observed
+    (observed : List (Action × Seen)) × IsCountedTo (steps_counted l.sights) observed l.i l.answers
     × AreFollowed l.sights.head.now.caps l.sights.head.now.capacity (take l.i observed) l.i (l.way ∷ [])
-    × (l.answers ≡ seen_count (take l.i observed)) × (l.answers ≤ l.i)

@@ -1,18 +1,14 @@
 use Rattle.dsa_conform.proofs.way.walk_again.Goals as goal
-use Rattle.std.proofs.Common.{◌≡◌, ◌<◌, length, arith, take, subst}
+use Rattle.std.proofs.Common.{◌≡◌, arith, take, subst}
 use Rattle.dsa_conform.specs.{Seen.{seen_as}, Run.{IsFollowedTo}, Sights.{steps_counted}}
-use Rattle.dsa_conform.proofs.{Bare.{length_counted}, Steps.{come_on, reads_item}}
+use Rattle.dsa_conform.proofs.Steps.{come_on, reads_counted}
 
 pub loop-i-init : goal.loop-i-init
 loop-i-init c = (omega arith, λ observed read. c.in_ok-way.ensures)
 
 pub unreachable-requires : goal.unreachable-requires
 unreachable-requires c =
-    let many = length_counted c.args.sights.now in
-    let inside : c.loop-i.i < length (steps_counted c.args.sights.now) =
-    omega (arith, c.loop-i-test.true, c.requires.inside, many) in
-    reads_item (steps_counted c.args.sights.now) c.requires.read.0 c.loop-i.i c.requires.read.1 inside
-    c.in_default.ensures
+    reads_counted c.args.sights.now c.requires.read.0 c.loop-i.i c.requires.read.1 (omega arith) c.in_default.ensures
 
 pub loop-i-preserved : goal.loop-i-preserved
 loop-i-preserved c = (

@@ -6,4 +6,5 @@ use Rattle.dsa_conform.proofs.way.walk_again.Given as goal
 -- the device has come by the steps before
 abbrev pub invariant-loop-i : goal.invariant-loop-i
 invariant-loop-i l = (l.i ≤ l.count) × ((observed : List (Action × Seen)) → AreRead (steps_counted l.sights) observed
-    → IsFollowedTo l.sights.head.now.caps l.sights.head.now.capacity (take l.i observed) l.i l.way.device l.way.tickets.items)
+    → IsFollowedTo l.sights.head.now.caps l.sights.head.now.capacity (take l.i observed) l.i l.way.device
+    l.way.tickets.items)

@@ -12,8 +12,9 @@ loop-queue-preserved c =
     let steps = steps_counted c.args.sights.now in
     let qs = c.args.queues.now in
     let i = c.loop-queue.queue-index in
-    subst (λ l. AreAdded c.args.sights.now.head.now.caps c.args.sights.now.head.now.capacity steps c.args.number c.args.choices.now l
-    c.args.ways.now.items c.add_way.new.ways.items)
+    subst (λ l. AreAdded c.args.sights.now.head.now.caps c.args.sights.now.head.now.capacity steps c.args.number
+    c.args.choices.now l c.args.ways.now.items c.add_way.new.ways.items)
     (sym (take_more qs i 0 c.loop-queue-test.true))
-    (more_added c.args.sights.now.head.now.caps c.args.sights.now.head.now.capacity steps c.args.number c.args.choices.now (take i qs) _ _ _ _
+    (more_added c.args.sights.now.head.now.caps c.args.sights.now.head.now.capacity steps c.args.number
+    c.args.choices.now (take i qs) _ _ _ _
     c.in_ok-way.way c.loop-queue.invariant c.in_ok-way.ensures c.in_ok-add_way.ensures)

@@ -17,7 +17,8 @@ returns-then-not-is_empty c =
     let taken = c.as_slice-then-not-is_empty in
     let queues = c.as_slice-then-not-is_empty-2 in
     on_ok_weaker c.add_forks.result
-    (λ added. forked c.args.sights.now.head.now.caps c.args.sights.now.head.now.capacity steps (c.args.action, seen_as c.args.seen.now)
+    (λ added. forked c.args.sights.now.head.now.caps c.args.sights.now.head.now.capacity steps
+    (c.args.action, seen_as c.args.seen.now)
     c.args.number c.args.way c.args.ways.now.items c.add_forks.new.ways.items _ c.event_for-asked.result
     c.in_ok-queues.queues.items c.in_ok-choices.choices.items
     (λ before t. c.event_for-asked.ensures before (rw c.as_slice.ensures.value t))
@@ -26,8 +27,8 @@ returns-then-not-is_empty c =
     (subst (λ l. AreAdded c.args.sights.now.head.now.caps c.args.sights.now.head.now.capacity steps c.args.number
     c.in_ok-choices.choices.items l
     c.args.ways.now.items c.add_forks.new.ways.items) queues.ensures.value
-    (subst (λ l. AreAdded c.args.sights.now.head.now.caps c.args.sights.now.head.now.capacity steps c.args.number l queues.result.now
-    c.args.ways.now.items c.add_forks.new.ways.items) taken.ensures.value added)))
+    (subst (λ l. AreAdded c.args.sights.now.head.now.caps c.args.sights.now.head.now.capacity steps c.args.number l
+    queues.result.now c.args.ways.now.items c.add_forks.new.ways.items) taken.ensures.value added)))
     c.add_forks.ensures
 
 pub returns-in-Some : goal.returns-in-Some
@@ -35,7 +36,8 @@ returns-in-Some c = λ observed read h.
     gone_telling c.args.sights.now.head.now.caps c.args.sights.now.head.now.capacity (take c.args.number observed)
     (c.args.action, seen_as c.args.seen.now) c.args.number c.args.way.device _ c.walk_step.new.way _ _ _ c.in-Some.told
     (rw c.in-Some.is at
-    (c.in_ok-told.ensures c.args.sights.now.head.now.caps c.args.sights.now.head.now.capacity (take c.args.number observed) c.args.number
+    (c.in_ok-told.ensures c.args.sights.now.head.now.caps c.args.sights.now.head.now.capacity
+    (take c.args.number observed) c.args.number
     read.is_named h))
     c.in_ok-push.ensures.items
 
@@ -46,7 +48,8 @@ returns c =
     gone_alone c.args.sights.now.head.now.caps c.args.sights.now.head.now.capacity (take c.args.number observed)
     (c.args.action, seen_as c.args.seen.now) c.args.number c.args.way.device _ c.walk_step.new.way _ _ _
     (rw c.in_default.is at
-    (c.in_ok-told.ensures c.args.sights.now.head.now.caps c.args.sights.now.head.now.capacity (take c.args.number observed) c.args.number
+    (c.in_ok-told.ensures c.args.sights.now.head.now.caps c.args.sights.now.head.now.capacity
+    (take c.args.number observed) c.args.number
     read.is_named h))
     added)
     c.add_way.ensures

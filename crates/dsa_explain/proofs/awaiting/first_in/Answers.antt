@@ -16,7 +16,7 @@ returns-in_err-cell g c =
     (YieldsList-from_take_while {s = c.take_while.result} _ early
     (walked (c.take_while.ensures.source ∙ c.entries_of_list.ensures)) c.take_while.ensures.closure
     c.take_while.ensures.done (λ x b q k. search (rules, tests))) (λ x b q k. search (rules, tests))
-    ∙ found-within c.state_is_replay.ensures.well_formed c.args.noted.now c.args.list c.requires in
+    ∙ found-within c.state_is_replay.ensures.lawful.well_formed c.args.noted.now c.args.list c.requires in
     rw (
       c.from_residual.ensures,
       find-told (λ (e : Entry). is_waited_for c.args.noted.now e) c.args.list,
@@ -33,7 +33,7 @@ returns g c =
     (YieldsList-from_take_while {s = c.take_while.result} _ early
     (walked (c.take_while.ensures.source ∙ c.entries_of_list.ensures)) c.take_while.ensures.closure
     c.take_while.ensures.done (λ x b q k. search (rules, tests))) (λ x b q k. search (rules, tests))
-    ∙ found-within c.state_is_replay.ensures.well_formed c.args.noted.now c.args.list c.requires in
+    ∙ found-within c.state_is_replay.ensures.lawful.well_formed c.args.noted.now c.args.list c.requires in
     rw (
       find-told (λ (e : Entry). is_waited_for c.args.noted.now e) c.args.list,
       ← found,

@@ -11,7 +11,7 @@ returns g c =
     let there = when-some _ (used w c.args.group) c.in_ok-used.used (sym c.used.ensures ∙ c.in_ok-used.was) in
     let config = when-some _ (group_at w.setup.groups c.args.group) c.in_ok-config.config
     (sym c.group_config.ensures ∙ c.in_ok-config.was) in
-    let same = ap (λ (caps : Caps). caps.groups) c.state_is_replay.ensures.well_formed.shape.same_caps in
+    let same = ap (λ (caps : Caps). caps.groups) c.state_is_replay.ensures.lawful.well_formed.shape.same_caps in
     let at = get_or-each (used w) w.setup.caps.groups c.args.group 0
     (omega (arith, same, ltb-true _ _ there.0)) in
     rw (there.0, c.kept.ensures, at, there.1, config.1) refl

@@ -5,6 +5,7 @@ use Rattle.dsa_explain.specs.Held.{is_named_by}
 use Rattle.dsa_explain.proofs.Holding.{names-step}
 use Rattle.dsa_explain_lines.proofs.Naming.{lists-next}
 use Rattle.std.proofs.lemmas.Grind.{common_steps}
+use Rattle.dsa_device.proofs.Known.{shape_of}
 
 pub loop-number-preserved : goal.loop-number-preserved
 loop-number-preserved g c =
@@ -14,7 +15,7 @@ loop-number-preserved g c =
       | else-is_told w ↦ rw (w.is_told-is, w.if-is_told.false) refl
     ] in
     let here = names-step c.args.device.now.state c.args.device.now.caps c.caps-caps.result
-    c.state_is_replay.ensures.well_formed.shape c.caps-caps.ensures c.list_use-list.result c.loop-number.number
+    (shape_of c.args.device.now c.state_is_replay.ensures.past) c.caps-caps.ensures c.list_use-list.result c.loop-number.number
     (omega (arith, c.loop-number-test.true, c.list_count-number-end.ensures)) c.list_use-list.ensures.use_of
     c.list_use-list.ensures.number (is_named_by c.args.naming.now.named) in
     lists-next _ _ _ _ _ _ c.list_use-list.result _ _ _ c.loop-number.is_told c.in_ok-has_names.has_names c.if-is_told.is_told

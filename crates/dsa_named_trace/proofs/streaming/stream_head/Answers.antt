@@ -1,12 +1,24 @@
+use Rattle.dsa_named_trace.proofs.streaming.stream_head.{Given.{Over}, Goals.{After-deref}}
 use Rattle.dsa_named_trace.proofs.streaming.stream_head.Goals as goal
-use Rattle.std.proofs.Common.{◌≡◌, ◌∙◌, Some, ap, inl, inr, map, refl, sym}
+use Rattle.std.proofs.Common.{◌≡◌, ◌∙◌, ℕ, List, Some, ap, inl, inr, map, refl, sym}
 use Rattle.std.proofs.{KnownBytes.{Appends-trans}, lemmas.Result.{err_from_is_err_and, on_ok_weaker, IfErr-at_err}}
 use Rattle.serde_json.specs.View.{view}
 use Rattle.dsa_scenario.specs.declared.faults.ScenarioFault.TheVariants.{Write, OutOfMemory}
-use Rattle.dsa_scenario.specs.{Streams.{IsPartWritten}, Watched.{watched_contents}}
-use Rattle.dsa_scenario.proofs.StreamWrites.{part_behind}
+use Rattle.dsa_scenario.specs.{Document.{HasHead}, Streams.{IsPartWritten}, Watched.{watched_contents}}
+use Rattle.dsa_scenario.proofs.{Streams.{IsOpened}, StreamWrites.{part_behind}}
 use Rattle.dsa_named_trace.proofs.Streams.{bad_head, cut_of_stop, lines_of_stop, stopped_whole}
 use Rattle.dsa_named_trace.proofs.Streams.{trace_behind, trace_memory, trace_of_rest, trace_stopped}
+
+-- the head of these bytes opened the run
+opened : (g : Over) (c : After-deref g) (bytes : List ℕ)
+    → HasHead bytes c.args.head.now.caps c.args.head.now.capacity (map view c.args.head.now.steps.now)
+    → IsOpened bytes c.args.head.now.caps c.args.head.now.capacity (map view c.args.head.now.steps.now)
+    c.deref.result.now
+opened g c bytes head = record {
+  head = head;
+  asked = c.in_ok-actions.ensures.ok ∙ ap (map Some) (sym c.deref.ensures.value);
+  opening = c.in_ok-run.ensures.opening;
+}
 
 pub returns-in_err-actions-clause-document : goal.returns-in_err-actions-clause-document
 returns-in_err-actions-clause-document g c =
@@ -38,12 +50,7 @@ returns-in_err-page-clause-part g c is bytes head =
     let stopped = c.in_err-page.ensures.stopped c.args.head.now.caps c.args.head.now.capacity
     c.in_ok-run.ensures.first in
     let cut = cut_of_stop g.W.Write.contents c.args.what.form _ _ bytes _ _ _ _
-    (record {
-      head = head;
-      asked = c.in_ok-actions.ensures.ok ∙ ap (map Some) (sym c.deref.ensures.value);
-      opening = c.in_ok-run.ensures.opening;
-    })
-    (stopped.0 refused) in
+    (opened g (goal.at.returns-in_err-page-clause-part g c).After-deref bytes head) (stopped.0 refused) in
     (cut.0, (refl, inr cut.1), cut.2)
 
 pub returns-in_err-page-clause-lines : goal.returns-in_err-page-clause-lines
@@ -53,11 +60,7 @@ returns-in_err-page-clause-lines g c is bytes head =
     let stopped = c.in_err-page.ensures.stopped c.args.head.now.caps c.args.head.now.capacity
     c.in_ok-run.ensures.first in
     inr (lines_of_stop g.W.Write.contents c.args.what.form _ _ bytes _ _ _ _
-    (record {
-      head = head;
-      asked = c.in_ok-actions.ensures.ok ∙ ap (map Some) (sym c.deref.ensures.value);
-      opening = c.in_ok-run.ensures.opening;
-    })
+    (opened g (goal.at.returns-in_err-page-clause-lines g c).After-deref bytes head)
     (stopped.1 (λ refused. absurd cc)))
 
 pub returns-in_err-text-clause-writer : goal.returns-in_err-text-clause-writer
@@ -70,11 +73,7 @@ pub returns-in_err-text-clause-lines : goal.returns-in_err-text-clause-lines
 returns-in_err-text-clause-lines g c is bytes head =
     let walked = c.in_ok-page.ensures.ok c.args.head.now.caps c.args.head.now.capacity c.in_ok-run.ensures.first in
     inr (lines_of_stop g.W.Write.contents c.args.what.form _ _ bytes _ _ _ _
-    (record {
-      head = head;
-      asked = c.in_ok-actions.ensures.ok ∙ ap (map Some) (sym c.deref.ensures.value);
-      opening = c.in_ok-run.ensures.opening;
-    })
+    (opened g (goal.at.returns-in_err-text-clause-lines g c).After-deref bytes head)
     (stopped_whole g.W.Write.contents c.args.what.form _ _ _ _ _ _ _ _ _ walked))
 
 pub returns-clause-writer : goal.returns-clause-writer
@@ -89,11 +88,7 @@ returns-clause-ok g c =
     (λ whole bytes head.
     let walked = c.in_ok-page.ensures.ok c.args.head.now.caps c.args.head.now.capacity c.in_ok-run.ensures.first in
     let all = trace_of_rest g.W.Write.contents c.args.what.form _ _ bytes _ _ _ _ _ _ _ _ c.as_bytes.result.now
-    (record {
-      head = head;
-      asked = c.in_ok-actions.ensures.ok ∙ ap (map Some) (sym c.deref.ensures.value);
-      opening = c.in_ok-run.ensures.opening;
-    })
+    (opened g (goal.at.returns-clause-ok g c).After-deref bytes head)
     walked (λ rest made. rw c.as_bytes.ensures.value (c.in_ok-text.ensures rest made)) in
     (_, all.2, Appends-trans _ _ _ _ _ all.1.lines whole))
     c.write_text.ensures.whole
@@ -102,11 +97,7 @@ pub returns-clause-part : goal.returns-clause-part
 returns-clause-part g c is bytes head =
     let walked = c.in_ok-page.ensures.ok c.args.head.now.caps c.args.head.now.capacity c.in_ok-run.ensures.first in
     let all = trace_of_rest g.W.Write.contents c.args.what.form _ _ bytes _ _ _ _ _ _ _ _ c.as_bytes.result.now
-    (record {
-      head = head;
-      asked = c.in_ok-actions.ensures.ok ∙ ap (map Some) (sym c.deref.ensures.value);
-      opening = c.in_ok-run.ensures.opening;
-    })
+    (opened g (goal.at.returns-clause-part g c).After-deref bytes head)
     walked (λ rest made. rw c.as_bytes.ensures.value (c.in_ok-text.ensures rest made)) in (
       _,
       (refl, inl all.2),

@@ -22,6 +22,12 @@ returns-clause-saved c =
     (drop (length bytes - 32) bytes) s.magic (sym s.caps.fit) (take-append-drop 52 (body_in bytes)) s.checksum
     (take-append-drop (length bytes - 32) bytes)
 
+pub returns-clause-not_anew : goal.returns-clause-not_anew
+returns-clause-not_anew c = c.in_ok-make_steps.ensures.made.anew
+
+pub returns-clause-room : goal.returns-clause-room
+returns-clause-room c = c.in_ok-make_steps.ensures.made.room ∙ sym c.in_ok-make_steps.ensures.made.capacity
+
 pub returns-clause-equal : goal.returns-clause-equal
 returns-clause-equal c d replay again same =
     let bytes = c.args.bytes.now in
@@ -32,4 +38,5 @@ returns-clause-equal c d replay again same =
     (records_in bytes) c.in_ok-make_steps.ensures.made s.size
     (header_bytes (caps_of_words words) (slice_index words 9) (slice_index words 10)) refl h.words h.caps in
     let saved : saved_bytes c.make_steps.new.device ≡ bytes = returns-clause-saved c in
-    saved-same c.make_steps.new.device d c.state_is_replay.ensures.replay replay read again (saved ∙ sym same)
+    let whole = c.state_is_replay.ensures.replay c.in_ok-make_steps.ensures.made.anew in
+    saved-same c.make_steps.new.device d whole replay read again (saved ∙ sym same)

@@ -24,7 +24,9 @@ returns-clause-walk c = record {
   records = records_of_a_submission;
   of_actions = (refl, (refl, (refl, (refl, (refl, (refl, tt))))));
   count = refl;
-  run = (goes_by (running_at_first caps_of_a_run 7) _ records_of_a_submission refl (refl, refl) refl replay).run;
+  run = (goes_by (running_at_first caps_of_a_run 7) _ records_of_a_submission refl (refl, refl, refl, refl) refl replay).run;
+  room = refl;
+  not_anew = refl;
   replay = replay;
   table = table;
   in_turn = refl;
@@ -51,6 +53,16 @@ pub returns-clause-another_device : goal.returns-clause-another_device
 returns-clause-another_device c is =
     let same : 8 ≡ 9 = is.run.same_capacity in
     omega (arith, same)
+
+pub returns-clause-another_room : goal.returns-clause-another_room
+returns-clause-another_room c is =
+    let same : 8 ≡ 9 = is.room in
+    omega (arith, same)
+
+pub returns-clause-anew : goal.returns-clause-anew
+returns-clause-anew c is =
+    let same : true ≡ false = is.not_anew in
+    absurd cc
 
 pub returns-clause-no_device : goal.returns-clause-no_device
 returns-clause-no_device c is =

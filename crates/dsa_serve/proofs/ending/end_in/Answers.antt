@@ -1,7 +1,6 @@
 use Rattle.dsa_serve.proofs.ending.end_in.Goals as goal
-use Rattle.std.proofs.Common.{◌≡◌, ◌+◌, ◌∙◌, arith, length-take, sym, take}
+use Rattle.std.proofs.Common.{◌∙◌, arith, length-take, sym, take}
 use Rattle.std.proofs.lemmas.List.{take_all}
-use Rattle.dsa_serve.specs.Input.{has_no_end, inside_after}
 use Rattle.dsa_serve.proofs.Ends.{depth_within, ends_here, one_byte}
 
 pub loop-at-preserved : goal.loop-at-preserved

@@ -1,6 +1,6 @@
 use Rattle.dsa_serve.proofs.front.read_first.{Given.{Over}, Goals.{In_ok-count}}
 use Rattle.dsa_serve.proofs.front.read_first.Goals as goal
-use Rattle.std.proofs.Common.{◌≡◌, ◌<◌, ◌≤◌, ◌^◌, ◌++◌, ap, sym, length, take, arith, length-append, ◌∙◌, rules}
+use Rattle.std.proofs.Common.{◌<◌, ◌≤◌, ◌^◌, ◌++◌, ap, sym, length, take, arith, length-append, ◌∙◌, rules}
 use Rattle.std.proofs.lemmas.Result.{err_from_is_err_and}
 use Rattle.dsa_scenario.specs.Counted.{HasGiven, IsAskedFor}
 use Rattle.dsa_scenario.proofs.GivenBytes.{HasGiven-once, HasGiven-trans, asked_once_more}
@@ -14,19 +14,20 @@ given_so_far : (g : Over) (c : In_ok-count g)
     (c.reads.first.items ++ take c.in_ok-count.count c.read_once.new.chunk)
 given_so_far g c =
     let it = c.in_ok-count.ensures in
-    HasGiven-trans g.R.Read.remaining c.args.reader.now c.reads.reader c.read_once.new.self c.reads.first.items
-    (take c.in_ok-count.count c.read_once.new.chunk) (c.reads.invariant.taken, c.reads.invariant.given)
-    (HasGiven-once g.R.Read.remaining c.reads.reader c.read_once.new.self c.in_ok-count.count c.read_once.new.chunk
-    it.bound.0 it.bytes.0 it.given)
+    HasGiven-trans g.R.Read.remaining c.args.reader.now c.reads.reader c.read_once.new.self
+    c.reads.first.items (take c.in_ok-count.count c.read_once.new.chunk)
+    (c.reads.invariant.taken, c.reads.invariant.given)
+    (HasGiven-once g.R.Read.remaining c.reads.reader c.read_once.new.self c.in_ok-count.count
+    c.read_once.new.chunk it.bound.0 it.bytes.0 it.given)
 
 asked_so_far : (g : Over) (c : In_ok-count g)
     → IsAskedFor g.R.Read.remaining c.args.reader.now c.read_once.new.self 1
 asked_so_far g c =
     let it = c.in_ok-count.ensures in
     let before = c.reads.invariant in
-    asked_once_more g.R.Read.remaining c.args.reader.now c.reads.reader c.read_once.new.self c.reads.first.items
-    c.in_ok-count.count c.read_once.new.chunk (before.taken, before.given) before.asked it.bound.0 it.bytes.0 it.given
-    it.counted
+    asked_once_more g.R.Read.remaining c.args.reader.now c.reads.reader c.read_once.new.self
+    c.reads.first.items c.in_ok-count.count c.read_once.new.chunk (before.taken, before.given) before.asked
+    it.bound.0 it.bytes.0 it.given it.counted
 
 -- where it gave some, for each byte once
 asked_for_each : (g : Over) (c : In_ok-count g) → 0 < c.in_ok-count.count
@@ -52,16 +53,18 @@ fits g c =
 pub returns-in_err-count-clause-stopped : goal.returns-in_err-count-clause-stopped
 returns-in_err-count-clause-stopped g c =
     let p = err_from_is_err_and c.from_residual.result c.from_residual.ensures.1 in
-    rw (p.1, p.2) (λ held. first_read_stops _ _ _ _ held c.reads.first.items _ c.reads.invariant.taken
-    c.reads.invariant.unended (omega (arith, c.reads-test.true, c.len.ensures, c.reads.first.ok.0))
+    rw (p.1, p.2) (λ friendly held. first_read_stops friendly _ _ _ _ held c.reads.first.items _
+    c.reads.invariant.taken c.reads.invariant.unended
+    (omega (arith, c.reads-test.true, c.len.ensures, c.reads.first.ok.0))
     c.in_err-count.ensures.bytes c.in_err-count.ensures.faults)
 
 pub returns-in_err-cut-clause-stopped : goal.returns-in_err-cut-clause-stopped
 returns-in_err-cut-clause-stopped g c =
     let p = err_from_is_err_and c.from_residual-in_err-cut.result c.from_residual-in_err-cut.ensures.1 in
     let read = (goal.at.returns-in_err-cut-clause-stopped g c).In_ok-count in
-    rw (p.1, p.2) (λ held. cut_stops _ _ _ held c.reads.first.items (take c.in_ok-count.count c.read_once.new.chunk)
-    c.in-Some.at _ (rw c.reads.invariant.so_far at c.in-Some.ensures.1) c.reads.invariant.unended (short g read)
+    rw (p.1, p.2) (λ friendly held. cut_stops friendly _ _ _ held c.reads.first.items
+    (take c.in_ok-count.count c.read_once.new.chunk) c.in-Some.at _
+    (rw c.reads.invariant.so_far at c.in-Some.ensures.1) c.reads.invariant.unended (short g read)
     (fits g read) (given_so_far g read).0
     c.in_err-cut.ensures.faults)
 
@@ -82,9 +85,9 @@ returns-in_err-extend_from_slice-clause-stopped g c =
     let p = err_from_is_err_and c.from_residual-in_err-extend_from_slice.result
     c.from_residual-in_err-extend_from_slice.ensures.1 in
     let read = (goal.at.returns-in_err-extend_from_slice-clause-stopped g c).In_ok-count in
-    rw (p.1, p.2) (λ held. memory_before _ _ _ held c.reads.first.items
-    (take c.in_ok-count.count c.read_once.new.chunk) (given_so_far g read).0 c.reads.invariant.unended (short g read)
-    (fits g read))
+    rw (p.1, p.2) (λ friendly held. memory_before friendly _ _ _ held c.reads.first.items
+    (take c.in_ok-count.count c.read_once.new.chunk) (given_so_far g read).0 c.reads.invariant.unended
+    (short g read) (fits g read))
 
 pub returns-in_err-cut-clause-reader : goal.returns-in_err-cut-clause-reader
 returns-in_err-cut-clause-reader g c =
@@ -103,7 +106,8 @@ returns-in-Some-clause-reader g c =
 
 pub returns-in-Some-clause-asked_first : goal.returns-in-Some-clause-asked_first
 returns-in-Some-clause-asked_first g c going =
-    asked_for_each g (goal.at.returns-in-Some-clause-asked_first g c).In_ok-count (omega (arith, c.if-count-eq0.false))
+    asked_for_each g (goal.at.returns-in-Some-clause-asked_first g c).In_ok-count
+    (omega (arith, c.if-count-eq0.false))
 
 pub reads-preserved : goal.reads-preserved
 reads-preserved g c =
@@ -129,8 +133,8 @@ reads-preserved g c =
     }
 
 pub returns-clause-stopped : goal.returns-clause-stopped
-returns-clause-stopped g c held =
-    long_stops _ _ _ held c.reads.first.items c.reads.invariant.taken c.reads.invariant.unended
+returns-clause-stopped g c friendly held =
+    long_stops friendly _ _ _ held c.reads.first.items c.reads.invariant.taken c.reads.invariant.unended
     (omega (arith, c.reads-test.false, c.len.ensures, c.reads.first.ok.0)) c.reads.invariant.few
 
 pub end_in-requires : goal.end_in-requires

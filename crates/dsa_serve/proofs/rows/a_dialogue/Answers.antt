@@ -1,5 +1,6 @@
 use Rattle.dsa_serve.proofs.rows.a_dialogue.Goals as goal
 use Rattle.std.{proofs.Common.{◌≡◌, true, false, refl}, specs.Fmt.{digits}}
+use Rattle.dsa_serve.proofs.RowDialogues.{led}
 
 no : ¬ (true ≡ false)
 no same = absurd cc
@@ -7,7 +8,8 @@ no same = absurd cc
 pub returns-clause-answered : goal.returns-clause-answered
 unfolding digits
 returns-clause-answered c = record {
-  count = refl;
+  of_actions = (refl, (refl, (refl, tt)));
+  led = (led refl refl refl, (led refl refl refl, (led refl refl refl, tt)));
   closest = (λ other. absurd (no other), (λ other. absurd (no other), (λ other. absurd (no other), tt)));
   answered = refl;
 }
@@ -18,6 +20,14 @@ returns-clause-not_answered c is =
     absurd cc
 
 pub returns-clause-without_its_step : goal.returns-clause-without_its_step
-returns-clause-without_its_step c is =
-    let count = is.count in
+returns-clause-without_its_step c is = is.of_actions
+
+pub returns-clause-of_another_event : goal.returns-clause-of_another_event
+returns-clause-of_another_event c is =
+    let asked = is.of_actions.0 in
+    absurd cc
+
+pub returns-clause-of_another_number : goal.returns-clause-of_another_number
+returns-clause-of_another_number c is =
+    let number = is.led.0.number_is in
     absurd cc

@@ -2,7 +2,8 @@ use Rattle.dsa_serve.proofs.rows.dialogues.Goals as goal
 use Rattle.dsa_book.specs.declared.answer.Reply.TheVariants as reply
 use Rattle.dsa_book.specs.declared.event.Event.TheVariants as event
 use Rattle.dsa_scenario.specs.Steps.{visits}
-use Rattle.std.proofs.Common.{◌++◌, ℕ, ◌≢◌, true, false, List, [], ◌∷◌, codes, map, refl, lit≤, lit<, arith, sym}
+use Rattle.std.proofs.Common.{◌++◌, ℕ, ◌≢◌, true, false, List, [], ◌∷◌, None, codes, map, refl}
+use Rattle.std.proofs.Common.{lit≤, lit<, arith, sym}
 use Rattle.std.proofs.Common.{append-nil, inl, inr}
 use Rattle.std.specs.Fmt.{digits}
 use Rattle.std.proofs.lemmas.List.Elements.{All-nil, All-cons}
@@ -11,12 +12,14 @@ use Rattle.dsa_scenario.specs.declared.{actions.Action.TheVariants.{Ask}, run.Re
 use Rattle.dsa_book.specs.State.{opening}
 use Rattle.dsa_scenario.specs.{Lines.{line_of_text}, Worked.{smallest_caps, stepped}}
 use Rattle.dsa_scenario.specs.Worked.{caps_of_a_run, actions_of_a_run, records_of_a_run}
-use Rattle.dsa_device.specs.Running.{running_at_first}
 use Rattle.dsa_serve.specs.Requests.{Explain}
-use Rattle.dsa_serve.specs.{Input.{IsLine, AreLines, HasFirst}, Dialogue.{IsDialogue, AnswersWhole, AnswersAll}}
-use Rattle.dsa_serve.specs.Worked.{answers_to_a_brace, poll_line, explained_poll_line, first_line, not_json, unseen}
+use Rattle.dsa_serve.specs.{Input.{IsLine, AreLines, HasFirst}}
+use Rattle.dsa_serve.specs.{Dialogue.{IsDialogue, AnswersWhole, AnswersAll}}
+use Rattle.dsa_serve.specs.Worked.{answers_to_a_brace, poll_line, explained_poll_line, first_line}
+use Rattle.dsa_serve.specs.Worked.{not_json, unseen}
 use Rattle.dsa_serve.proofs.RowDialogues.{bare_document, poll_document, open_brace, nothing_behind}
-use Rattle.dsa_serve.proofs.RowDialogues.{asks_no_json, asks_explained_poll, dialogue_by, bare_dialogue, all_unseen}
+use Rattle.dsa_serve.proofs.RowDialogues.{asks_no_json, asks_explained_poll, dialogue_by}
+use Rattle.dsa_serve.proofs.RowDialogues.{alone, bare_dialogue, all_unseen, led}
 
 pub returns-clause-no_lines : goal.returns-clause-no_lines
 returns-clause-no_lines c = bare_dialogue
@@ -28,10 +31,10 @@ pub returns-clause-lines : goal.returns-clause-lines
 unfolding digits
 returns-clause-lines c =
     dialogue_by (first_line poll_line) (codes "{" ∷ explained_poll_line ∷ []) ((Ask event.Poll, unseen) ∷ [])
-    (not_json ∷ Explain (Ask event.Poll) unseen ∷ []) (polled ∷ polled ∷ []) poll_document
-    (asks_no_json, (asks_explained_poll, tt)) (refl, (refl, tt)) refl refl
-    (all_unseen (running_at_first smallest_caps 9) (Ask event.Poll ∷ Ask event.Poll ∷ [])
-    (visits smallest_caps 9 [] (polled ∷ polled ∷ [])))
+    (not_json ∷ Explain (Ask event.Poll) unseen ∷ []) (visits smallest_caps 9 [] (polled ∷ polled ∷ []))
+    poll_document (asks_no_json, (asks_explained_poll, refl)) (refl, (refl, tt))
+    (led refl refl refl, (led refl refl refl, tt)) refl
+    (all_unseen (Ask event.Poll ∷ Ask event.Poll ∷ []) (visits smallest_caps 9 [] (polled ∷ polled ∷ [])))
 
 -- the first line of such an input, and the lines behind it
 split : (behind : List ℕ) → HasFirst false (line_of_text (first_line []) ++ behind) (first_line []) behind
@@ -47,14 +50,14 @@ one_line = record {
 no_line : AreLines (codes "{") [] (codes "{")
 no_line = record { joined = refl; each = All-nil IsLine; last = open_brace }
 
-dialogue : IsDialogue (first_line []) (codes "{" ∷ []) (opening smallest_caps) (answers_to_a_brace)
+dialogue : IsDialogue false (first_line []) (codes "{" ∷ []) (opening smallest_caps) (answers_to_a_brace)
 unfolding digits
 dialogue = dialogue_by (first_line []) (codes "{" ∷ []) [] (not_json ∷ []) [] bare_document
-    (asks_no_json, tt) tt refl refl tt
+    (asks_no_json, refl) tt tt refl tt
 
 -- what answers the whole lines of such an input, and what answers all of them
 whole_of : (behind rest : List ℕ) → AreLines behind (codes "{" ∷ []) rest
-    → AnswersWhole false (line_of_text (first_line []) ++ behind) (answers_to_a_brace)
+    → AnswersWhole false false (line_of_text (first_line []) ++ behind) (answers_to_a_brace)
 whole_of behind rest lines_are = record {
   first = first_line [];
   behind = behind;
@@ -66,7 +69,7 @@ whole_of behind rest lines_are = record {
   dialogue = dialogue;
 }
 
-all_of : AnswersAll (line_of_text (first_line []) ++ codes "{") (answers_to_a_brace)
+all_of : AnswersAll false (line_of_text (first_line []) ++ codes "{") (answers_to_a_brace)
 all_of = record {
   without_feed = false;
   first = first_line [];
@@ -134,24 +137,16 @@ returns-clause-memory c rest long = (
   refl,
 )
 
-poll_dialogue : IsDialogue (first_line poll_line) [] (opening smallest_caps) (codes "nothing\nready 1\n")
+poll_dialogue : IsDialogue false (first_line poll_line) [] (opening smallest_caps)
+    (codes "nothing\nready 1\n")
 unfolding digits
 poll_dialogue =
-    dialogue_by (first_line poll_line) [] ((Ask event.Poll, unseen) ∷ []) [] (polled ∷ []) poll_document tt (refl, tt)
-    refl refl (all_unseen (running_at_first smallest_caps 9) (Ask event.Poll ∷ [])
-    (visits smallest_caps 9 [] (polled ∷ [])))
+    dialogue_by (first_line poll_line) [] ((Ask event.Poll, unseen) ∷ []) []
+    (visits smallest_caps 9 [] (polled ∷ [])) poll_document refl (refl, tt) (led refl refl refl, tt) refl
+    (all_unseen (Ask event.Poll ∷ []) (visits smallest_caps 9 [] (polled ∷ [])))
 
-only_line : AnswersWhole true (first_line poll_line) (codes "nothing\nready 1\n")
-only_line = record {
-  first = first_line poll_line;
-  behind = [];
-  lines = [];
-  rest = [];
-  last = opening smallest_caps;
-  split = record { unended = refl; short = lit≤ tt; front = (refl, refl) };
-  lines_are = nothing_behind;
-  dialogue = poll_dialogue;
-}
+only_line : AnswersWhole false true (first_line poll_line) (codes "nothing\nready 1\n")
+only_line = alone (first_line poll_line) (codes "nothing\nready 1\n") refl (lit≤ tt) poll_dialogue
 
 pub returns-clause-memory_at_the_only_line : goal.returns-clause-memory_at_the_only_line
 returns-clause-memory_at_the_only_line c =
@@ -173,16 +168,35 @@ returns-clause-ended c first document = record {
     capacity = 7;
     observed = map (λ action. (action, unseen)) actions_of_a_run;
     requests = [];
-    records = records_of_a_run;
+    steps = visits caps_of_a_run 7 [] records_of_a_run;
+    strict = first;
+    form = refl;
     document = document;
     opening = record { good = refl; small = lit≤ tt };
-    asked = tt;
-    of_actions = (refl, (refl, (refl, (refl, (refl, (refl, (refl, (refl, (refl, tt)))))))));
-    run = refl;
-    replayed = refl;
-    closest = all_unseen (running_at_first caps_of_a_run 7) actions_of_a_run
-        (visits caps_of_a_run 7 [] records_of_a_run);
-    answered = refl;
+    names = None;
+    asked = refl;
+    course = record {
+      of_actions = (refl, (refl, (refl, (refl, (refl, (refl, (refl, (refl, (refl, tt)))))))));
+      led = (
+        led refl refl refl,
+        (
+          led refl refl refl,
+          (
+            led refl refl refl,
+            (
+              led refl refl refl,
+              (
+                led refl refl refl,
+                (led refl refl refl, (led refl refl refl, (led refl refl refl, (led refl refl refl, tt)))),
+              ),
+            ),
+          ),
+        ),
+      );
+      closest = all_unseen actions_of_a_run (visits caps_of_a_run 7 [] records_of_a_run);
+      answered = refl;
+    };
+    led_to = refl;
   };
   with_fates = refl;
 }

@@ -4,8 +4,8 @@ use Rattle.dsa_serve.specs.Input.{IsFront, IsUnended}
 use Rattle.dsa_serve.proofs.{Ends.{no_end_within, one_document}, RowLines.{one_division}}
 
 -- an input has one document
-one_first : (ended ended' : Bool) (input first first' behind behind' : List ℕ) → IsUnended first → IsUnended first'
-    → IsFront ended input first behind → IsFront ended' input first' behind'
+one_first : (ended ended' : Bool) (input first first' behind behind' : List ℕ) → IsUnended first
+    → IsUnended first' → IsFront ended input first behind → IsFront ended' input first' behind'
     → (first ≡ first') × (behind ≡ behind')
 one_first true true input first first' behind behind' h h' front front' =
     (sym front.0 ∙ front'.0, front.1 ∙ sym front'.1)

@@ -4,7 +4,7 @@ use Rattle.std.proofs.Common.{◌∷◌, Option, None, codes, refl, sym, ap, ari
 use Rattle.std.proofs.Common.{length, length-append, append-nil, append_assoc, inl, inr}
 use Rattle.std.specs.{Prelude.{Some, IsUtf8}, Io.KnownBytes.{IsAtEnd}}
 use Rattle.std.proofs.{Math.ListN.{get_or-append}, lemmas.List.Elements.{All-nil, All-cons}}
-use Rattle.dsa_scenario.specs.declared.faults.ScenarioFault.TheVariants.{Write}
+use Rattle.dsa_scenario.specs.declared.faults.ScenarioFault.TheVariants.{BadDocument, Write}
 use Rattle.dsa_scenario.specs.Document.{IsNoJson, HasNoHead}
 use Rattle.dsa_conform.specs.Run.{IsUnread}
 use Rattle.dsa_book.specs.State.{State}
@@ -12,7 +12,8 @@ use Rattle.serde_json.{specs.Read.{read}, proofs.OnLiterals.{serde_json_on_liter
 use Rattle.dsa_serve.specs.declared.ending.Inside.TheVariants.{Brackets}
 use Rattle.dsa_serve.specs.Input.{IsLine, IsFront, HasFirst, IsUnended, with_rest}
 use Rattle.dsa_serve.specs.Dialogue.{IsDialogue, AnswersWhole, AnswersAll, AnswersSoFar, IsStopped}
-use Rattle.dsa_serve.proofs.{Ends.{line_no_end}, RowLines.{no_feed_behind}, RowDialogues.{headless, no_dialogue}}
+use Rattle.dsa_serve.proofs.{Ends.{line_no_end}, RowLines.{no_feed_behind}}
+use Rattle.dsa_serve.proofs.{FirstFaults.{headless}, RowDialogues.{as_given, no_dialogue}}
 
 one : IsLine (codes "1")
 one = All-cons (λ byte. byte ≢ 10) 49 [] (λ same. absurd (omega (arith, same))) (All-nil (λ byte. byte ≢ 10))
@@ -28,25 +29,28 @@ returns-clause-read c = (codes "1", [], refl, inl (refl, omega arith, refl), ref
 
 -- a line that no dialogue begins with: nothing is an answer to it
 module _ (bytes : List ℕ) (line : IsLine bytes)
-    (none : (lines : List (List ℕ)) (last : State) (output : List ℕ) → ¬ IsDialogue bytes lines last output) where
+    (none : (lines : List (List ℕ)) (last : State) (output : List ℕ)
+    → ¬ IsDialogue false bytes lines last output) where
   first_is : (ended : Bool) (input first behind : List ℕ) → bytes ≡ input → HasFirst ended input first behind
       → bytes ≡ first
   first_is ended input first behind is h =
       is ∙ only_first ended input first behind (subst IsLine is line) h.front
 
-  no_whole : (ended : Bool) (input output : List ℕ) → bytes ≡ input → ¬ AnswersWhole ended input output
+  no_whole : (ended : Bool) (input output : List ℕ) → bytes ≡ input → ¬ AnswersWhole false ended input output
   no_whole ended input output is h =
       let first = first_is ended input h.first h.behind is h.split in
-      none h.lines h.last output (subst (λ f. IsDialogue f h.lines h.last output) (sym first) h.dialogue)
+      none h.lines h.last output
+      (subst (λ f. IsDialogue false f h.lines h.last output) (sym first) h.dialogue)
 
-  no_all : (input output : List ℕ) → bytes ≡ input → ¬ AnswersAll input output
+  no_all : (input output : List ℕ) → bytes ≡ input → ¬ AnswersAll false input output
   no_all input output is h =
       let e = h.ended in
       let first = first_is h.without_feed input h.first h.behind is h.split in
       let lines = with_rest e.lines e.rest in
-      none lines e.last e.answered (subst (λ f. IsDialogue f lines e.last e.answered) (sym first) e.dialogue)
+      none lines e.last e.answered
+      (subst (λ f. IsDialogue false f lines e.last e.answered) (sym first) e.dialogue)
 
-  nothing_written : (held holds : Option (List ℕ)) → ¬ IsStopped Write (Some bytes) (Some []) held holds
+  nothing_written : (held holds : Option (List ℕ)) → ¬ IsStopped false Write (Some bytes) (Some []) held holds
   nothing_written held holds is =
       let input = is.3 ∙ append-nil is.0 in
       elim is.4 [
@@ -56,13 +60,13 @@ module _ (bytes : List ℕ) (line : IsLine bytes)
       ]
 
 -- no bytes begin no dialogue
-no_bytes : (lines : List (List ℕ)) (last : State) (output : List ℕ) → ¬ IsDialogue [] lines last output
+no_bytes : (lines : List (List ℕ)) (last : State) (output : List ℕ) → ¬ IsDialogue false [] lines last output
 unfolding serde_json_on_literals
 no_bytes lines last output is =
-    let value = is.document.head.json.value in
+    let value = (as_given is.form is.document).head.json.value in
     absurd cc
 
-nothing_so_far : (input output : List ℕ) → codes "1" ≡ input → AnswersSoFar input output → output ≡ []
+nothing_so_far : (input output : List ℕ) → codes "1" ≡ input → AnswersSoFar false input output → output ≡ []
 nothing_so_far input output is (inl h) = h.2
 nothing_so_far input output is (inr h) = absurd (no_whole (codes "1") one no_dialogue false input output is h)
 
@@ -103,48 +107,40 @@ returns-clause-nothing_read c is =
 pub returns-clause-memory : goal.returns-clause-memory
 returns-clause-memory c = (codes "1", [], [], refl, omega arith, inl (inl (refl, omega arith, refl)), refl)
 
--- a number is a first line, and no document
-number_first : (ended : Bool) (input behind : List ℕ) → IsFront ended input (codes "1") behind
-    → HasFirst ended input (codes "1") behind
-number_first ended input behind front = record { unended = refl; short = omega arith; front = front }
-
+-- a number is no document
 no_head : HasNoHead (codes "1")
 unfolding serde_json_on_literals
-no_head = record { document = _; json = record { utf8 = (codes "1", (refl, refl)); value = refl }; none = refl }
+no_head =
+    record { document = _; json = record { utf8 = (codes "1", (refl, refl)); value = refl }; none = refl }
 
 -- so no object of it is one that is not read
 none_unread : (i : ℕ) → ¬ IsUnread (codes "1") i
 unfolding serde_json_on_literals
 none_unread i is = headless (codes "1") is.caps is.capacity is.steps _ refl refl is.head
 
-pub returns-clause-document : goal.returns-clause-document
-returns-clause-document c = (
-  codes "1",
+-- a number stops a dialogue, where its line or the input ends
+number_stops : (ended : Bool) (input rest : List ℕ) → IsFront ended input (codes "1") []
+    → (ended ≡ true → IsAtEnd (Some rest))
+    → IsStopped false BadDocument (Some (input ++ rest)) (Some rest) (Some []) (Some [])
+number_stops ended input rest front at_end = (
+  input,
   codes "1",
   [],
-  true,
+  ended,
   refl,
-  number_first true (codes "1") [] (refl, refl),
-  λ ended. refl,
+  record { unended = refl; short = omega arith; front = front },
+  at_end,
   omega arith,
   (no_head, none_unread),
   refl,
 )
 
+pub returns-clause-document : goal.returns-clause-document
+returns-clause-document c = number_stops true (codes "1") [] (refl, refl) (λ ended. refl)
+
 pub returns-clause-document_before_more : goal.returns-clause-document_before_more
-returns-clause-document_before_more c = (
-  codes "1\n",
-  codes "1",
-  [],
-  false,
-  refl,
-  number_first false (codes "1\n") []
-      (refl, refl),
-  λ ended. absurd cc,
-  omega arith,
-  (no_head, none_unread),
-  refl,
-)
+returns-clause-document_before_more c =
+    number_stops false (codes "1\n") (codes "2") (refl, refl) (λ ended. absurd cc)
 
 pub returns-clause-other_fault : goal.returns-clause-other_fault
 unfolding serde_json_on_literals
@@ -157,7 +153,7 @@ pub returns-clause-nothing_yet : goal.returns-clause-nothing_yet
 returns-clause-nothing_yet c = inl (refl, omega arith, refl)
 
 -- an answer so far is to a line that is not too long
-no_longer : (input output : List ℕ) → IsLine input → AnswersSoFar input output → length input ≤ 2 ^ 20
+no_longer : (input output : List ℕ) → IsLine input → AnswersSoFar false input output → length input ≤ 2 ^ 20
 no_longer input output line (inl h) = h.1
 no_longer input output line (inr h) =
     rw (only_first false input h.first h.behind line h.split.front) h.split.short
@@ -226,17 +222,17 @@ returns-clause-too_long_behind_a_line_feed c rest is =
     absurd (omega (arith, is.4, ap length none))
 
 -- what has no line feed is not answered
-nothing_to_a_line : (input output : List ℕ) → IsLine input → AnswersSoFar input output → output ≡ []
+nothing_to_a_line : (input output : List ℕ) → IsLine input → AnswersSoFar false input output → output ≡ []
 nothing_to_a_line input output line (inl h) = h.2
 nothing_to_a_line input output line (inr h) =
     absurd (no_feed_behind input h.first h.behind line h.split.front.0)
 
 -- what is no JSON begins no dialogue
 no_json : (bytes : List ℕ) → IsNoJson bytes → (lines : List (List ℕ)) (last : State) (output : List ℕ)
-    → ¬ IsDialogue bytes lines last output
+    → ¬ IsDialogue false bytes lines last output
 no_json bytes none lines last output is =
-    let no_value = none is.document.head.json.utf8 in
-    let value = is.document.head.json.value in
+    let no_value = none (as_given is.form is.document).head.json.utf8 in
+    let value = (as_given is.form is.document).head.json.value in
     absurd cc
 
 pub returns-clause-no_json_in_memory : goal.returns-clause-no_json_in_memory
@@ -279,7 +275,8 @@ pub returns-clause-unfinished_line_is_judged : goal.returns-clause-unfinished_li
 returns-clause-unfinished_line_is_judged c is = with_more is.3 is.0 is.1 is.2 is.4 is.5 is.6
 
 -- behind an empty first line is all that follows its line feed
-all_behind : (ended : Bool) (rest input first behind : List ℕ) → 10 ∷ rest ≡ input → HasFirst ended input first behind
+all_behind : (ended : Bool) (rest input first behind : List ℕ) → 10 ∷ rest ≡ input
+    → HasFirst ended input first behind
     → length behind ≡ length rest
 all_behind false rest input first behind is h =
     let whole : 10 ∷ rest ≡ first ++ 10 ∷ behind = is ∙ h.front.0 ∙ append_assoc first (10 ∷ []) behind in

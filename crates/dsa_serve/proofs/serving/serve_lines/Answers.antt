@@ -23,7 +23,8 @@ turns-preserved g c = record {
   asked = asked_on g.R.Read.remaining c.args.reader.now c.turns.reader c.turn.new.reader 0 0
       c.turns.invariant.asked
       (c.in_ok-turn.ensures.asked_for_more (ap Ok c.if-branch.true));
-  course = λ had held h. c.in_ok-turn.ensures.ok had held (c.turns.invariant.course had held h);
+  course = λ friendly had held h. c.in_ok-turn.ensures.ok friendly had held
+      (c.turns.invariant.course friendly had held h);
 }
 
 pub returns-clause-reader : goal.returns-clause-reader

@@ -9,8 +9,8 @@ owes : (g : Over) (c : After-issue-answer g) → Owed g.L.Sharing.caps g.L.Shari
     c.history-before.result.now c.issue-answer.new.self
     (λ _. event.Issue c.args.command) 0
     (reply.Issue c.issue-answer.result)
-owes g c = owed _ _ _ _ _ _ _ _ c.state_is_replay.ensures.replay c.locked.invariant.1 c.locked.invariant.2
-    c.history-before.ensures c.issue-answer.ensures
+owes g c = owed _ _ _ _ _ _ _ _ c.locked.invariant.3 c.state_is_replay.ensures.replay c.locked.invariant.1
+    c.locked.invariant.2 c.history-before.ensures c.issue-answer.ensures
 
 pub note-requires-clause-grown : goal.note-requires-clause-grown
 note-requires-clause-grown g c =
@@ -20,7 +20,7 @@ note-requires-clause-grown g c =
 pub invariant_of-locked : goal.invariant_of-locked
 invariant_of-locked g c =
     let s = owes g (goal.at.invariant_of-locked g c).After-issue-answer in
-    (c.note.ensures.total, s.same_capacity, s.same_caps)
+    (c.note.ensures.total, s.same_capacity, s.same_caps, s.not_anew)
 
 pub returns-clause-seat : goal.returns-clause-seat
 returns-clause-seat g c =

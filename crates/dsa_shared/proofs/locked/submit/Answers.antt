@@ -10,8 +10,8 @@ owes : (g : Over) (c : After-submit-answer g) → Owed g.L.Sharing.caps g.L.Shar
     c.history-before.result.now c.submit-answer.new.self
     (λ number. event.Submit number c.args.queue c.args.portal c.args.kind (read c.args.bytes.now)) c.seat.inside.number
     (reply.Submit c.submit-answer.result)
-owes g c = owed _ _ _ _ _ _ _ _ c.state_is_replay.ensures.replay c.locked.invariant.1 c.locked.invariant.2
-    c.history-before.ensures c.submit-answer.ensures
+owes g c = owed _ _ _ _ _ _ _ _ c.locked.invariant.3 c.state_is_replay.ensures.replay c.locked.invariant.1
+    c.locked.invariant.2 c.history-before.ensures c.submit-answer.ensures
 
 pub note-requires-clause-grown : goal.note-requires-clause-grown
 note-requires-clause-grown g c =
@@ -21,7 +21,7 @@ note-requires-clause-grown g c =
 pub invariant_of-locked : goal.invariant_of-locked
 invariant_of-locked g c =
     let s = owes g (goal.at.invariant_of-locked g c).After-submit-answer in
-    (c.note.ensures.total, s.same_capacity, s.same_caps)
+    (c.note.ensures.total, s.same_capacity, s.same_caps, s.not_anew)
 
 pub returns-clause-seat : goal.returns-clause-seat
 returns-clause-seat g c =

@@ -50,7 +50,7 @@ returns-clause-sums g c =
 pub returns-clause-balance : goal.returns-clause-balance
 returns-clause-balance g c =
     let d = c.locked.inside.device in
-    let replayed = c.state_is_replay.ensures.replay.replayed in
+    let replayed = (c.state_is_replay.ensures.replay c.locked.invariant.3).replayed in
     let is : c.count-totals.result ≡ totals_of d.history (held_count d.state.work.content) = c.count-totals.ensures
     ∙ (λ i. totals_of (c.history.ensures i) (c.held.ensures.value i)) in
     let P : Running → Type 0 = λ r. Balance c.count-totals.result r.state.work in
@@ -76,14 +76,18 @@ pub returns-clause-device : goal.returns-clause-device
 returns-clause-device g c = c.locked.view_is
 
 pub returns-clause-replay : goal.returns-clause-replay
-returns-clause-replay g c = subst IsReplay c.locked.view_is c.state_is_replay.ensures.replay
+returns-clause-replay g c = subst IsReplay c.locked.view_is (c.state_is_replay.ensures.replay c.locked.invariant.3)
 
 pub returns-clause-well_formed : goal.returns-clause-well_formed
 returns-clause-well_formed g c =
-    subst (λ r. IsWellFormed r.caps r.state) c.locked.view_is c.state_is_replay.ensures.well_formed
+    subst (λ r. IsWellFormed r.caps r.state) c.locked.view_is
+    (c.state_is_replay.ensures.well_formed c.locked.invariant.3)
 
 pub returns-clause-caps : goal.returns-clause-caps
 returns-clause-caps g c = ap (λ l. l.caps) (sym c.locked.view_is) ∙ c.locked.invariant.2
 
 pub returns-clause-capacity : goal.returns-clause-capacity
 returns-clause-capacity g c = ap (λ l. l.capacity) (sym c.locked.view_is) ∙ c.locked.invariant.1
+
+pub returns-clause-not_anew : goal.returns-clause-not_anew
+returns-clause-not_anew g c = ap (λ l. l.anew) (sym c.locked.view_is) ∙ c.locked.invariant.3

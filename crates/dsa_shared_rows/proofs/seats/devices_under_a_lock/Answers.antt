@@ -1,11 +1,14 @@
 use Rattle.dsa_shared_rows.proofs.seats.devices_under_a_lock.Goals as goal
-use Rattle.std.proofs.Common.{ap, arith, lit≤, refl}
+use Rattle.std.proofs.Common.{◌≡◌, true, false, ap, arith, lit≤, refl}
 use Rattle.dsa_regs.specs.{declared.Caps.{Caps}, Worked.{caps}}
 use Rattle.dsa_device.specs.Running.{running_at_first}
 use Rattle.dsa_shared_rows.proofs.FirstDevices.{kept_at_first}
 
 pub returns-clause-kept : goal.returns-clause-kept
 returns-clause-kept c = kept_at_first 5 (lit≤ tt)
+
+pub returns-clause-begun_anew : goal.returns-clause-begun_anew
+returns-clause-begun_anew c is = let no : true ≡ false = is.not_anew in absurd cc
 
 pub returns-clause-other_caps : goal.returns-clause-other_caps
 returns-clause-other_caps c is = omega (arith, ap (λ (caps : Caps). caps.queues) is.same_caps)

@@ -13,5 +13,5 @@ overflow_cast-result g c =
           i.awaiting)
           (g.met.S.EntryStore.sound c.self.inside.store).room,
       cells-are _ _ _ i.whole,
-      cell_count-bound c.self.inside.caps i.whole.replay.caps,
+      cell_count-bound c.self.inside.caps i.whole.past.caps,
     )

@@ -13,7 +13,7 @@ returns g c =
 
 pub invariant_of-self : goal.invariant_of-self
 invariant_of-self g c =
-    set-up-running _ _ _ _ _ _ _ _ _ event.ClearError (reply.Clear c.clear_error-answer.result)
-    c.self.invariant c.self.view_is (returns g c) refl refl
+    set-up-running _ _ _ _ _ _ _ _ _ _ _ event.ClearError (reply.Clear c.clear_error-answer.result)
+    c.self.invariant c.self.view_is (returns g c) refl refl (rw c.record.ensures refl)
     (λ on. clear-keeps _ _ _ _ c.clear_error-answer.ensures.answer)
     c.clear_error-answer.ensures.held refl refl refl

@@ -8,10 +8,10 @@ pub finish_reason-requires-clause-store : goal.finish_reason-requires-clause-sto
 finish_reason-requires-clause-store g c = c.self.invariant.whole.in_step.store
 
 pub finish_reason-requires-clause-placed : goal.finish_reason-requires-clause-placed
-finish_reason-requires-clause-placed g c = in_place _ c.self.invariant.whole.replay
+finish_reason-requires-clause-placed g c = in_place _ c.self.invariant.whole.past
 
 pub finish_reason-requires-clause-order : goal.finish_reason-requires-clause-order
-finish_reason-requires-clause-order g c = queues_rise _ c.self.invariant.whole.replay
+finish_reason-requires-clause-order g c = queues_rise _ c.self.invariant.whole.past
 
 pub returns-clause-reason : goal.returns-clause-reason
 returns-clause-reason g c = rw (← c.self.view_is) c.finish_reason.ensures

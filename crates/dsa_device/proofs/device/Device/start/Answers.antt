@@ -5,7 +5,8 @@ use Rattle.std.proofs.Common.{◌∙◌, refl, sym}
 use Rattle.dsa_admin.specs.Admin.{is_watched}
 use Rattle.dsa_laws.proofs.Awaits.{start-counts}
 use Rattle.dsa_device.proofs.Awaiting.{awaiting-kept, names-after}
-use Rattle.dsa_device.proofs.{Known.{well_formed, members_wait, member_rows_fit}, Steps.{answered, whole_after}}
+use Rattle.dsa_device.proofs.Known.{lawful, shape_of, members_wait, member_rows_fit}
+use Rattle.dsa_device.proofs.{Steps.{answered}, Whole.{whole_after, rows_after}}
 
 pub start-answer-requires-clause-in_step : goal.start-answer-requires-clause-in_step
 start-answer-requires-clause-in_step g c = c.self.invariant.whole.in_step
@@ -14,10 +15,11 @@ pub start-answer-requires-clause-counted : goal.start-answer-requires-clause-cou
 start-answer-requires-clause-counted g c = c.self.invariant.counted
 
 pub start-answer-requires-clause-order : goal.start-answer-requires-clause-order
-start-answer-requires-clause-order g c = members_wait _ c.args.engine c.self.invariant.whole.replay
+start-answer-requires-clause-order g c = members_wait _ c.args.engine c.self.invariant.whole.past
 
 pub start-answer-requires-clause-room : goal.start-answer-requires-clause-room
-start-answer-requires-clause-room g c = member_rows_fit _ c.args.engine c.self.invariant.whole.replay
+start-answer-requires-clause-room g c =
+    member_rows_fit _ _ c.args.engine c.self.invariant.whole.past c.self.invariant.rows_fit
 
 pub returns : goal.returns
 returns g c =
@@ -28,16 +30,19 @@ returns g c =
 
 pub invariant_of-self : goal.invariant_of-self
 invariant_of-self g c =
-    let lawful = well_formed _ c.self.invariant.whole.replay in
+    let p = c.self.invariant.whole.past in
     record {
       whole = whole_after _ _ _ _ _ _ _
           (event.Start c.args.engine) (reply.Start c.start-answer.result)
           c.self.invariant.whole c.self.view_is (returns g c) c.start-answer.ensures.in_step;
+      rows_fit = rows_after _ _ _ _ _ (event.Start c.args.engine) (reply.Start c.start-answer.result)
+          c.self.invariant.whole.past c.self.invariant.rows_fit c.self.view_is (returns g c)
+          (rw (c.record.ensures, c.start-answer.ensures.book) refl);
       counted = c.start-answer.ensures.counted;
       awaiting = awaiting-kept _ _ _ _ _
           (names-after _ _ _ (event.Start c.args.engine) (reply.Start c.start-answer.result)
-          c.self.invariant.whole.replay c.self.view_is (returns g c))
+          c.self.view_is (returns g c))
           (λ active earlier past. start-counts (is_watched active) active.mark earlier _ _ c.args.engine _ _
-          lawful.shape lawful.entries.placed c.start-answer.ensures.step)
+          (shape_of _ p) (lawful _ p).entries.placed c.start-answer.ensures.step)
           c.self.invariant.awaiting;
     }

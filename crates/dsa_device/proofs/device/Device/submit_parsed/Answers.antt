@@ -8,7 +8,8 @@ use Rattle.dsa_queues.specs.Queues.{intake}
 use Rattle.dsa_admin.specs.Admin.{is_watched}
 use Rattle.dsa_laws.proofs.Awaits.{submit-counts}
 use Rattle.dsa_device.proofs.Awaiting.{awaiting-kept, names-after}
-use Rattle.dsa_device.proofs.{Known.{accepting, names_fit}, InStep.{submit-keeps}, Steps.{answered, whole_after_queues}}
+use Rattle.dsa_device.proofs.{Known.{accepting, names_fit}, InStep.{submit-keeps}, Steps.{answered}}
+use Rattle.dsa_device.proofs.Whole.{whole_after_queues, rows_after}
 
 pub submit-answer-requires-clause-store : goal.submit-answer-requires-clause-store
 submit-answer-requires-clause-store g c = c.self.invariant.whole.in_step.store
@@ -20,7 +21,8 @@ pub submit-answer-requires-clause-counted : goal.submit-answer-requires-clause-c
 submit-answer-requires-clause-counted g c = c.self.invariant.counted
 
 pub submit-answer-requires-clause-names : goal.submit-answer-requires-clause-names
-submit-answer-requires-clause-names g c = λ h. names_fit _ c.self.invariant.whole.replay
+submit-answer-requires-clause-names g c = λ h.
+    names_fit _ c.self.invariant.whole.past (sym c.is_full.ensures.full ∙ c.if-is_full.false)
 
 pub returns : goal.returns
 returns g c =
@@ -45,12 +47,16 @@ invariant_of-self g c =
           old.whole c.self.view_is (returns g c) refl
           (c.submit-answer.ensures.store.cells ∙ ap cell_count keeps.caps ∙ sym old.whole.in_step.store.cells)
           (λ on. keeps);
+      rows_fit = rows_after _ _ _ _ _
+          (event.Submit c.args.client c.args.queue c.args.portal c.args.kind c.args.desc)
+          (reply.Submit c.submit-answer.result)
+          old.whole.past old.rows_fit c.self.view_is (returns g c) (rw c.record.ensures refl);
       counted = c.submit-answer.ensures.counted;
       awaiting = awaiting-kept _ _ _ _ _
           (names-after _ _ _
           (event.Submit c.args.client c.args.queue c.args.portal c.args.kind c.args.desc)
           (reply.Submit c.submit-answer.result)
-          old.whole.replay c.self.view_is (returns g c))
+          c.self.view_is (returns g c))
           (λ active earlier past. submit-counts (is_watched active) active.mark earlier _ c.args.queue c.args.portal
           c.args.kind c.args.desc cell _ _ past c.submit-answer.ensures.answer)
           old.awaiting;

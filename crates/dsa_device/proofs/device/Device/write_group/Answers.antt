@@ -13,8 +13,8 @@ returns g c =
 
 pub invariant_of-self : goal.invariant_of-self
 invariant_of-self g c =
-    set-up-running _ _ _ _ _ _ _ _ _ (event.WriteGroup c.args.group c.args.config)
+    set-up-running _ _ _ _ _ _ _ _ _ _ _ (event.WriteGroup c.args.group c.args.config)
     (reply.Write c.write_group-answer.result)
-    c.self.invariant c.self.view_is (returns g c) refl refl
+    c.self.invariant c.self.view_is (returns g c) refl refl (rw c.record.ensures refl)
     (write_group-keeps _ _ c.args.group c.args.config _ _ c.write_group-answer.ensures.answer)
     c.write_group-answer.ensures.held refl refl refl

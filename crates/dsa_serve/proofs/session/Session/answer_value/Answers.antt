@@ -1,50 +1,32 @@
 use Rattle.dsa_serve.proofs.session.Session.answer_value.Goals as goal
-use Rattle.std.proofs.Common.{◌≡◌, Some, None, sym}
+use Rattle.std.proofs.Common.{◌≡◌, ap, ◌∙◌, subst, string_bytes}
 use Rattle.std.proofs.lemmas.Result.{on_ok_weaker}
 use Rattle.serde_json.specs.View.{view}
-use Rattle.dsa_conform.specs.Seen.{seen_as}
-use Rattle.dsa_serve.specs.Requests.{Step, Explain, Show, Fates, Fault, request_of, TellsNoStep}
-use Rattle.dsa_serve.proofs.Sessions.{missed, shown}
+use Rattle.dsa_expand.specs.Single.{Itself, Strictly, StuckAt}
+use Rattle.dsa_serve.specs.Names.{own_names_of}
+use Rattle.dsa_serve.specs.Requests.{Fault, IsAskedAs, sense_in, step_within}
+use Rattle.dsa_serve.proofs.Answered.{by_fault}
 
-pub returns-in-Some-Step : goal.returns-in-Some-Step
-returns-in-Some-Step g c =
-    let asked = Step c.in-Some-Step.action (seen_as c.in-Some-Step.seen) in
-    let asks : Some asked ≡ request_of (view c.args.value.now) = rw
-    (c.in-Some-Step.is, c.in-Some-Step.field-0-is) at c.parse_line.ensures in
-    on_ok_weaker c.step.result
-    (λ steps caps room rs written h. (asked, sym asks, steps caps room rs written h)) c.step.ensures
+pub returns-in-Itself : goal.returns-in-Itself
+returns-in-Itself g c =
+    let sense = rw c.in-Itself.is at c.in_ok-meaning.ensures in
+    rw (← sense) c.answer_itself.ensures
 
-pub returns-in-Some-Explain : goal.returns-in-Some-Explain
-returns-in-Some-Explain g c =
-    let asked = Explain c.in-Some-Explain.action (seen_as c.in-Some-Explain.seen) in
-    let asks : Some asked ≡ request_of (view c.args.value.now) = rw
-    (c.in-Some-Explain.is, c.in-Some-Explain.field-0-is) at c.parse_line.ensures in
-    on_ok_weaker c.explain.result
-    (λ explains caps room rs written h. (asked, sym asks, explains caps room rs written h)) c.explain.ensures
+pub returns-in-Strict : goal.returns-in-Strict
+returns-in-Strict g c =
+    let sense = rw c.in-Strict.is at c.in_ok-meaning.ensures in
+    rw (← sense) c.answer_strict.ensures
 
-pub returns-in-Some-Show : goal.returns-in-Some-Show
-returns-in-Some-Show g c =
-    let asks : Some Show ≡ request_of (view c.args.value.now) = rw
-    (c.in-Some-Show.is, c.in-Some-Show.field-0-is) at c.parse_line.ensures in
-    on_ok_weaker c.add_shown.result
-    (λ adds caps room rs written h. (Show, sym asks, shown caps room rs _ _ _ _ written _ _ adds h)) c.add_shown.ensures
-
-pub returns-in-Some-Fates : goal.returns-in-Some-Fates
-returns-in-Some-Fates g c =
-    let asks : Some Fates ≡ request_of (view c.args.value.now) = rw
-    (c.in-Some-Fates.is, c.in-Some-Fates.field-0-is) at c.parse_line.ensures in
-    on_ok_weaker c.tell_fates.result
-    (λ tells caps room rs written h. (Fates, sym asks, tells caps room rs written h)) c.tell_fates.ensures
-
-pub returns-in_ok-why-in-None : goal.returns-in_ok-why-in-None
-returns-in_ok-why-in-None g c =
-    let asks : None ≡ request_of (view c.args.value.now) = rw c.in-None.is at c.parse_line.ensures in
+pub returns-in_ok-why-in-Nothing : goal.returns-in_ok-why-in-Nothing
+returns-in_ok-why-in-Nothing g c =
+    let d = view c.args.value.now in
+    let names = own_names_of c.args.self.now in
+    let key = c.in-Nothing.key.now in
     let why = c.as_str.result.now in
-    let told : TellsNoStep (view c.args.value.now) why = rw c.as_str.ensures.value c.in_ok-why-in-None.ensures in
+    let sense : StuckAt key ≡ sense_in names d = rw c.in-Nothing.is at c.in_ok-meaning.ensures in
+    let told : IsAskedAs (StuckAt key) d (Fault why) =
+    ap Fault (c.as_str.ensures.value ∙ c.in_ok-why-in-Nothing.ensures) in
     on_ok_weaker c.add_fault.result
-    (λ adds caps room rs written h. (
-      Fault why,
-      (sym asks, told),
-      missed caps room rs why _ _ _ _ written _ _ adds h,
-    ))
+    (by_fault c.args.self.now (string_bytes c.args.text.now) (string_bytes c.add_fault.new.text)
+    (IsAskedAs (sense_in names d) d) (step_within d) why (subst (λ s. IsAskedAs s d (Fault why)) sense told))
     c.add_fault.ensures

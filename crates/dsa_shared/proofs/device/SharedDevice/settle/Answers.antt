@@ -24,7 +24,8 @@ returns-in-Some-clause-mismatch_at g c i is =
     let first = (c.in-Some.ensures.mismatch i).0 (ap Some is) in (
       _,
       record {
-        replay = c.state_is_replay.ensures.replay;
+        not_anew = c.locked.invariant.3;
+        replay = c.state_is_replay.ensures.replay c.locked.invariant.3;
         same_caps = c.locked.invariant.2;
         same_capacity = c.locked.invariant.1;
       },
@@ -35,4 +36,7 @@ pub finish-requires-clause-complete : goal.finish-requires-clause-complete
 finish-requires-clause-complete = grind (arith, common_steps)
 
 pub returns-clause-complete : goal.returns-clause-complete
-returns-clause-complete = grind (arith, common_steps)
+returns-clause-complete g c =
+    let engines = ap (λ k. k.engines) (c.caps-engines.ensures ∙ c.locked.invariant.2) in
+    complete_by _ _ _ _ _ _ _ c.args.self.clients_are engines
+    (c.check.ensures.complete (λ is. grind (arith, is, c.in_default.is)))

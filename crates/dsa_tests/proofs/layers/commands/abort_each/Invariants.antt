@@ -2,5 +2,5 @@ use Rattle.dsa_tests.proofs.layers.commands.abort_each.Given as goal
 use Rattle.dsa_tests.specs.Parts.{AllAgree}
 
 abbrev pub invariant-loop-command : goal.invariant-loop-command
-invariant-loop-command g l = AllAgree l.parts.queues l.parts.engines l.parts.admin (g.S.EntryStore.cells l.parts.store)
-    (g.S.EntryStore.content l.parts.store)
+invariant-loop-command g l = AllAgree l.parts.queues l.parts.engines l.parts.admin l.parts.book
+    (g.S.EntryStore.cells l.parts.store) (g.S.EntryStore.content l.parts.store)

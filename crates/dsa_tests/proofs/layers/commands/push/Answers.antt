@@ -48,4 +48,5 @@ returns g c =
       };
       awaiting = awaiting-pushed parts.admin parts.queues.setup.next_name content _ c.args.queue _ _
           c.in-Some.ensures.some list c.give_name.ensures.name c.requires.awaiting;
+      rows = c.requires.rows;
     })
