@@ -6,9 +6,7 @@ ghost use Rattle.dsa_store.specs.Content.{chain};
 ghost use Rattle.dsa_admin.specs.Admin.{is_waited_for};
 ghost use Rattle.dsa_device.specs.Reads.{awaited};
 ghost use Rattle.dsa_explain.specs.Held.{names_where};
-ghost use Rattle.dsa_c.specs.Buffers.{with_items, with_items_from};
-ghost use Rattle.dsa_c.specs.Calls.{IsReadAs, number_told_for};
-ghost use Rattle.dsa_c.specs.Why.{names_awaited, names_of_wait};
+ghost use Rattle.dsa_c.specs.{Buffers.{with_items, with_items_from}, Calls.{IsReadAs, number_told_for}, Why.{names_awaited, names_of_wait}};
 
 use crate::buffers::write_number;
 use crate::handle::{Handle, let_device};

@@ -1,27 +1,14 @@
 //! Why the device behind a handle would answer an event as it does, as numbers. Nothing changes.
 
-ghost use Rattle.std.specs.Prelude.{◌≡◌, ◌<◌, ◌↔◌, false, [], is_some};
-ghost use Rattle.std.specs.Option.{option_map};
-ghost use Rattle.std.specs.List.{list_any};
+ghost use Rattle.std.specs.{Prelude.{◌≡◌, ◌<◌, ◌↔◌, false, []}, Option.{option_map}};
 ghost use Rattle.dsa_regs.specs.Command.{deed_of};
-ghost use Rattle.dsa_book.specs.declared.event.Event.{Event};
-ghost use Rattle.dsa_book.specs.{Machine.{intake_of}, Work.{front_of}};
+ghost use Rattle.dsa_book.specs.{declared.event.Event.{Event}, Machine.{intake_of}};
 ghost use Rattle.dsa_queues.specs.{Submission.{submit_reason}, Write.{clear_reason}};
-ghost use Rattle.dsa_engines.specs.Batch.{fetch_reason, name_of_entry};
-ghost use Rattle.dsa_engines.specs.{Dispatch.{engine_reason}, Finish.{finish_reason}};
+ghost use Rattle.dsa_engines.specs.{Batch.{fetch_reason}, Dispatch.{engine_reason}, Finish.{finish_reason}};
 ghost use Rattle.dsa_admin.specs.Command.{issue_reason, poll_reason};
 ghost use Rattle.dsa_device.specs.Running.{Running};
 ghost use Rattle.dsa_explain.specs.{Done.{done_reason}, Held.{awaited_entry}, Wait.{wait_reason}};
-ghost use Rattle.dsa_explain_lines.specs.Parts.{any_reason};
-ghost use Rattle.dsa_c.specs.declared.kinds.TheConstants.{NONE};
-ghost use Rattle.dsa_c.specs.Events.{event_from_c};
-ghost use Rattle.dsa_c.specs.Reads.{IsReadForC};
-ghost use Rattle.dsa_c.specs.Why.{reason_words};
-ghost use Rattle.dsa_c.specs.Reasons.{submit_numbers, fetch_numbers, done_numbers, poll_numbers};
-ghost use Rattle.dsa_c.specs.Reasons.{wait_numbers, clear_numbers, without_reason, told_in_numbers};
-ghost use Rattle.dsa_c.specs.Reasons.{idle_numbers, unstarted_numbers, unended_numbers, end_numbers};
-ghost use Rattle.dsa_c.specs.Reasons.{removal_numbers, deed_numbers, command_told, event_numbers};
-ghost use Rattle.dsa_c.specs.Reasons.{full_numbers, reason_for_c, queue_reason_for_c, writes_config};
+ghost use Rattle.dsa_c.specs.{declared.kinds.TheConstants.{NONE}, Events.{event_from_c}, Reads.{IsReadForC}, Why.{reason_words}, Reasons.{submit_numbers, fetch_numbers, done_numbers, poll_numbers, wait_numbers, clear_numbers, without_reason, told_in_numbers, idle_numbers, unstarted_numbers, unended_numbers, end_numbers, removal_numbers, deed_numbers, command_told, event_numbers, full_numbers, reason_for_c, queue_reason_for_c, writes_config}};
 
 use crate::commanded::{clear_numbers, issue_numbers, poll_numbers, wait_numbers};
 use crate::entries::{
@@ -39,6 +26,7 @@ use dsa_desc::Outcome;
 use dsa_device::Device;
 use dsa_engines::FinishReason;
 use dsa_explain::{awaited_entry, done_reason, wait_reason};
+use dsa_explain_lines::{any_reason, front_name};
 use dsa_regs::{Command, Deed};
 use dsa_store::EntryStore;
 
@@ -62,18 +50,6 @@ fn submission_told<S: EntryStore>(
         Some(reason) => submit_numbers(queue, &reason),
         None => without_reason(),
     }
-}
-
-// Whether a queue below this number has a reason.
-fn any_reason<S: EntryStore>(device: &Device<S>, engine: u16, queues: u16) -> bool
-    ensures { result ≡ any_reason device.now.state.work engine queues }
-{
-    for queue in 0..queues {
-        if device.queue_reason(engine, queue).is_some() {
-            return true;
-        }
-    }
-    false
 }
 
 // The reason of the engine, or that each queue of its group has one, or that there is no queue.
@@ -302,18 +278,6 @@ pub extern "C" fn dsa_reason_of(
     };
     *reason = reason_told(device, &event);
     1
-}
-
-// The name of the front of the queue.
-fn front_name<S: EntryStore>(device: &Device<S>, queue: u16) -> u32
-    requires { queue < device.now.caps.queues }
-    ensures { result ≡ name_of_entry (front_of device.now.state.work queue) }
-{
-    device.state_is_replay();
-    match device.waiting_at(queue, 0) {
-        Some((_, entry)) => entry.name,
-        None => 0,
-    }
 }
 
 // Why the engine does not take the front of the queue, where the queue is one of its group.

@@ -7,12 +7,14 @@ use Rattle.dsa_scenario.specs.Worked.{Fields, whole, object_of, array_of_one, fi
 use Rattle.dsa_scenario.specs.Worked.{some_caps, poll_step, smallest_caps_text, document_text}
 use Rattle.std.specs.declared.{alloc.Global.{Global}, vec.Vec.{Vec}}
 use Rattle.dsa_scenario.specs.declared.faults.ScenarioFault.{ScenarioFault}
-use Rattle.dsa_scenario.specs.declared.faults.ScenarioFault.TheVariants.{BadCapacity}
+use Rattle.dsa_scenario.specs.declared.actions.StepKind.TheVariants.{Poll}
+use Rattle.dsa_scenario.specs.declared.faults.ScenarioFault.TheVariants.{BadCapacity, BadStep}
 use Rattle.dsa_scenario.specs.declared.fields.Form.{Form}
 use Rattle.dsa_check.specs.declared.checking.{Check.{Check}, CheckForm.TheVariants.{Lines}}
 use Rattle.dsa_check.specs.declared.{places.Spot.{Spot}, syntax.Wanted.{Wanted}}
 use Rattle.dsa_check.specs.declared.syntax.Wanted.TheVariants as wanted
 use Rattle.dsa_check.specs.declared.{fields.Key.{Key}, finding.{Finding.{Finding}, Reason.{Reason}}}
+use Rattle.dsa_check.specs.declared.{finding.Reason.TheVariants.{Missing}, remarks.Remark.{Remark}}
 use Rattle.dsa_scenario.specs.{Fields.{Row}, Actions.{rows_of_kind, kind_of}}
 use Rattle.json.specs.Json as json
 use Rattle.dsa_check.specs.{Findings.{TellsWhy}, Repeats.{keys_written, caps_written}}
@@ -56,6 +58,22 @@ IsNoReason wanted value reason = (key : Key) → IsReasonOf key wanted value (re
 abbrev pub found_at : Option ℕ → Option ℕ → Vec Reason Global → Finding
 found_at line column reasons =
     record { fault = BadCapacity; place = record { line = line; column = column; kind = None }; reasons = reasons }
+
+-- a step that lacks a key, and the warning of that, which points to a place in the text
+abbrev pub found_in_a_step : Vec Reason Global → Finding
+found_in_a_step reasons = record {
+  fault = BadStep 3;
+  place = record { line = Some 5; column = None; kind = Some Poll };
+  reasons = reasons;
+}
+
+abbrev pub step_without_a_key : Vec Reason Global → Remark
+step_without_a_key reasons = record {
+  is_warning = true;
+  finding = record { ref_ptr = (0, 0); now = found_in_a_step reasons };
+  reason = Some (record { ref_ptr = (0, 0); now = Missing key_of_a_step });
+  spot = Some (record { at = 3; line = 2; column = 2 });
+}
 
 -- this fault of the value is not told without a reason
 abbrev pub IsUntold : Data → ScenarioFault → Type 0

@@ -11,6 +11,7 @@ ghost use Rattle.dsa_scenario.specs.declared.faults.ScenarioFault.TheVariants.{B
 ghost use Rattle.dsa_scenario.specs.declared.fields.Form.TheVariants as form;
 ghost use Rattle.dsa_scenario.specs.Worked.{whole, object_of, some_caps, poll_step};
 ghost use Rattle.dsa_check.specs.declared.fields.Found.TheVariants as found;
+ghost use Rattle.dsa_check.specs.declared.checking.CheckForm.TheVariants as check_form;
 ghost use Rattle.dsa_check.specs.declared.finding.Aim.TheVariants as aim;
 ghost use Rattle.dsa_check.specs.declared.finding.Finding.{Finding};
 ghost use Rattle.dsa_check.specs.declared.finding.Reason.TheVariants.{Missing, Expandable};
@@ -20,11 +21,13 @@ ghost use Rattle.dsa_check.specs.declared.finding.Reason.TheVariants.{NoDigit, N
 ghost use Rattle.dsa_check.specs.declared.finding.Reason.TheVariants.{UnknownKind, Stray, Twice};
 ghost use Rattle.dsa_check.specs.declared.finding.Reason.TheVariants.{NotUtf8, Syntax};
 ghost use Rattle.dsa_check.specs.declared.syntax.Syntax.TheVariants.{Comment};
+ghost use Rattle.dsa_check.specs.Check.{text_in};
 ghost use Rattle.dsa_check.specs.Members.{other_text, other_value, is_gap, IsValueAt, IsKeyAt};
 ghost use Rattle.dsa_check.specs.Remarks.{aim_of, name_of, is_of_caps, part_at, part_meant};
-ghost use Rattle.dsa_check.specs.Remarks.{reasons_or_none, said_of, IsAimedAt};
+ghost use Rattle.dsa_check.specs.Remarks.{reasons_or_none, said, said_of, IsAimedAt};
 ghost use Rattle.dsa_check.specs.Worked.{right_document, key_of_caps, key_of_a_step};
 ghost use Rattle.dsa_check.specs.Worked.{last_of_two, text_of_two, found_at, third_line};
+ghost use Rattle.dsa_check.specs.Worked.{found_in_a_step, step_without_a_key};
 ghost use Rattle.dsa_check.specs.Objects.{number_member, text_member, part_name, step_number};
 ghost use Rattle.dsa_check.specs.Objects.{level_name, line_told, column_told};
 ghost use Rattle.dsa_check.specs.Objects.{members_of_remark};
@@ -100,8 +103,8 @@ pub fn places_of_members()
     ensures aimed_nowhere { IsAimedAt text_of_two last_of_two aim.Key None 1 → ⊥ }
     ensures texts { map other_text (true ∷ false ∷ []) ≡ codes "false" ∷ codes "null" ∷ [] }
     ensures values { map other_value (true ∷ false ∷ []) ≡ boolean false ∷ null ∷ [] }
-    ensures gaps { map is_gap (58 ∷ 32 ∷ 10 ∷ 33 ∷ 44 ∷ 34 ∷ [])
-        ≡ true ∷ true ∷ true ∷ false ∷ false ∷ false ∷ [] }
+    ensures gaps { map is_gap (58 ∷ 32 ∷ 10 ∷ 33 ∷ 44 ∷ 34 ∷ 59 ∷ [])
+        ≡ true ∷ true ∷ true ∷ false ∷ false ∷ false ∷ false ∷ [] }
 {}
 
 /// What an object of a remark has.
@@ -133,6 +136,26 @@ pub fn objects_of_remarks()
         ∷ token.string (codes "\"slots\" of \"caps\" is missing") ∷ token.end_object ∷ [] }
 {}
 
+/// What a check writes of a warning in each form: as a line, as an object, and with its source line
+/// without colours and with them.
+#[tactic(auto, unfolding(json::specs::Print::print_from, json::specs::Print::escape_byte, dsa_scenario::specs::Worked::digits_on_literals))]
+pub fn forms_of_remarks()
+    ensures said { (reasons : Vec Reason Global)
+        → said (step_without_a_key reasons)
+        ≡ (true, found_in_a_step reasons, Some (Missing key_of_a_step)) }
+    ensures texts { (reasons : Vec Reason Global)
+        → map (λ form. text_in form (codes "a\nbcd\ne") (step_without_a_key reasons))
+        (check_form.Lines ∷ check_form.Json ∷ check_form.Source false ∷ check_form.Source true
+        ∷ [])
+        ≡ codes "warning: line 2, column 2, step 3 (poll): \"desc\" is missing\n"
+        ∷ (codes "{\"line\":2,\"column\":2,\"part\":\"step\",\"step\":3,\"kind\":\"poll\","
+        ++ codes "\"key\":\"desc\",\"level\":\"warning\","
+        ++ codes "\"reason\":\"\\\"desc\\\" is missing\"}\n")
+        ∷ codes "warning: line 2, column 2, step 3 (poll): \"desc\" is missing\nbcd\n ^\n"
+        ∷ (codes "warning: line 2, column 2, step 3 (poll): \"desc\" is missing\nbcd\n "
+        ++ (27 ∷ codes "[33m^") ++ (27 ∷ codes "[0m\n")) ∷ [] }
+{}
+
 /// What is shown of a source line, and the mark below it.
 #[tactic(auto, unfolding(dsa_scenario::specs::Worked::digits_on_literals))]
 pub fn lines_of_sources()
@@ -140,7 +163,9 @@ pub fn lines_of_sources()
         ≡ 63 ∷ 63 ∷ 32 ∷ 126 ∷ 63 ∷ 63 ∷ [] }
     ensures before { before_place (codes "a\nbcd") (record { at = 4; line = 2; column = 3 })
         ≡ codes "bc" }
-    ensures outside { before_place (codes "a") (record { at = 4; line = 1; column = 5 }) ≡ [] }
+    ensures outside { map (before_place (codes "a\nbcd"))
+        (record { at = 5; line = 2; column = 4 } ∷ record { at = 6; line = 2; column = 3 } ∷ [])
+        ≡ codes "bcd" ∷ [] ∷ [] }
     ensures far { before_place (replicate 100 97) (record { at = 80; line = 1; column = 81 })
         ≡ replicate 60 97 }
     ensures from { map (from_place (codes "a\nbcd\ne"))

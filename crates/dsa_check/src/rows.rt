@@ -383,6 +383,10 @@ pub fn texts_of_findings()
         → spot_text (found_at (Some 2) None reasons)
         (Some (record { at = 40; line = 3; column = 15 }))
         ≡ codes "line 3, column 15, " }
+    ensures flaw { (reasons : Vec Reason Global)
+        → spot_text (record (found_at None None reasons) { fault = NotJson })
+        (Some (record { at = 40; line = 3; column = 15 }))
+        ≡ codes "line 3, column 15: " }
     ensures told { (reasons : Vec Reason Global)
         → said_text false (found_at None None reasons) (Some NotUtf8) None
         ≡ codes "capacity: the bytes are no UTF-8\n" }

@@ -108,6 +108,8 @@ pub fn oddities_of_steps()
         ≡ codes "\"command\" is no key here" ∷ [] }
     ensures seen { step_texts [] (object_of ((codes "answr", null) ∷ poll_step))
         ≡ codes "\"answr\" is no key here, but \"answer\" is" ∷ [] }
+    ensures as_near_to_as { step_texts [] (object_of ((codes "ds", null) ∷ movdir_step))
+        ≡ codes "\"ds\" is no key here, but \"do\" is" ∷ [] }
 {}
 
 /// What is odd where a step has its own name: no text, or a text that is none. It comes behind what

@@ -9,11 +9,11 @@ use Rattle.dsa_book.specs.declared.answer.{StartAnswer.{StartAnswer}}
 use Rattle.dsa_book.specs.declared.answer.{SubmitAnswer.{SubmitAnswer, TheVariants.{Accepted}}}
 use Rattle.dsa_book.specs.declared.event.{Kind.TheVariants.{Enqcmd}, Portal.TheVariants.{Limited}}
 use Rattle.dsa_book.specs.declared.fate.{Fate.TheVariants.{Aborted, Completed}, FateRow.{FateRow}}
-use Rattle.dsa_device.specs.Running.{Running}
+use Rattle.dsa_device.specs.Running.{Running, running_at_first}
 use Rattle.dsa_scenario.specs.declared.run.Record.{Record}
-use Rattle.dsa_scenario.specs.Steps.{Visit, standing, visits}
+use Rattle.dsa_scenario.specs.Steps.{Visit, standing, visit, visits}
 use Rattle.dsa_scenario.specs.Worked.{caps_of_a_run, fate, fill, record_ticket, records_of_a_run}
-use Rattle.dsa_scenario.specs.Worked.{stepped}
+use Rattle.dsa_scenario.specs.Worked.{smallest_caps, stepped}
 use Rattle.dsa_chosen.specs.declared.selection.Selection.{Selection}
 use Rattle.dsa_chosen.specs.declared.words.AnswerWords.{AnswerWords}
 
@@ -65,6 +65,13 @@ aborted_so_many count = stepped (event.Issue AbortAll) (reply.Issue (Ended count
 -- entry 4 completed, and then entries 7 and 5 were aborted
 abbrev pub fates_of_three : List FateRow
 fates_of_three = fate 4 (Completed 1) ∷ fate 7 (Aborted 4) ∷ fate 5 (Aborted 4) ∷ []
+
+-- a step of a new device, after which these are the fates
+abbrev pub visit_with : Record → List FateRow → Visit
+visit_with entry fates =
+    let new = running_at_first smallest_caps 4 in
+    let work = record new.state.work { fates = fates } in
+    visit 3 new entry (record new { state = record new.state { work = work } })
 
 -- ---- a run
 

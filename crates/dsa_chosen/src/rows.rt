@@ -18,20 +18,20 @@ ghost use Rattle.dsa_scenario.specs.Worked.{fate, record_of_a_fetch, record_tick
 ghost use Rattle.dsa_chosen.specs.Words.{answer_words, first_word, is_answer_word, is_answered};
 ghost use Rattle.dsa_chosen.specs.Words.{unknown_word, words_in};
 ghost use Rattle.dsa_chosen.specs.Selected.{is_about, is_by, is_selected, selected_fates};
-ghost use Rattle.dsa_chosen.specs.Run.{AreChosenOf};
+ghost use Rattle.dsa_chosen.specs.Run.{AreChosenOf, is_visit_selected};
 ghost use Rattle.dsa_chosen.specs.Worked.{aborted_so_many, accepted_as_7, all_lines};
 ghost use Rattle.dsa_chosen.specs.Worked.{end_of_a_run, of_client_and_answers};
 ghost use Rattle.dsa_chosen.specs.Worked.{fates_of_three, finished_with, of_answers, of_this_client};
 ghost use Rattle.dsa_chosen.specs.Worked.{of_name, of_name_and_answers, started_with};
-ghost use Rattle.dsa_chosen.specs.Worked.{steps_of_a_run, submitted_by};
+ghost use Rattle.dsa_chosen.specs.Worked.{steps_of_a_run, submitted_by, visit_with};
 
 /// The words of texts, and with which of them answers begin.
 pub fn of_words()
     ensures first { map first_word
-        (codes "retry at-limit" ∷ codes "idle" ∷ codes "taken 3 from 0" ∷ [] ∷ [])
-        ≡ codes "retry" ∷ codes "idle" ∷ codes "taken" ∷ [] ∷ [] }
-    ensures parted { map words_in (codes "retry,idle" ∷ codes "full" ∷ codes "a,,b" ∷ [] ∷ [])
-        ≡ (codes "retry" ∷ codes "idle" ∷ []) ∷ (codes "full" ∷ [])
+        (codes "retry at-limit" ∷ codes "idle" ∷ codes "taken 3 from 0" ∷ codes "a\nb c" ∷ [] ∷ [])
+        ≡ codes "retry" ∷ codes "idle" ∷ codes "taken" ∷ codes "a\nb" ∷ [] ∷ [] }
+    ensures parted { map words_in (codes "retry,idle" ∷ codes "a b" ∷ codes "a,,b" ∷ [] ∷ [])
+        ≡ (codes "retry" ∷ codes "idle" ∷ []) ∷ (codes "a b" ∷ [])
         ∷ (codes "a" ∷ [] ∷ codes "b" ∷ []) ∷ ([] ∷ []) ∷ [] }
     ensures known { unknown_word (codes "retry,no-batch,full") ≡ None }
     ensures unknown { map unknown_word
@@ -73,11 +73,16 @@ pub fn of_names()
         (started_with (Started (record_ticket 1 7)) ∷ started_with FenceWait ∷ [])
         ≡ true ∷ false ∷ [] }
     ensures finished { map (λ entry. is_about 7 entry fates_of_three)
-        (finished_with 7 (Done 1) ∷ finished_with 7 Gone ∷ finished_with 4 (Done 1) ∷ [])
-        ≡ true ∷ true ∷ false ∷ [] }
+        (finished_with 7 (Done 1) ∷ finished_with 7 Gone ∷ finished_with 4 (Done 1)
+        ∷ finished_with 9 (Done 1) ∷ [])
+        ≡ true ∷ true ∷ false ∷ false ∷ [] }
     ensures aborted { map (λ name. is_about name (aborted_so_many 2) fates_of_three)
         (4 ∷ 7 ∷ 5 ∷ 2 ∷ [])
         ≡ false ∷ true ∷ true ∷ false ∷ [] }
+    ensures of_a_visit { map
+        (λ name. is_visit_selected (of_name name) (visit_with (aborted_so_many 2) fates_of_three))
+        (4 ∷ 5 ∷ [])
+        ≡ false ∷ true ∷ [] }
     ensures abandoned { map (λ name. is_about name (started_with (Abandoned 1)) fates_of_three)
         (4 ∷ 7 ∷ 5 ∷ [])
         ≡ false ∷ false ∷ true ∷ [] }

@@ -59,7 +59,8 @@ nothing_made = record { text = []; lanes = []; clients = [] }
 -- three queues, four groups and two engines
 abbrev pub caps_of_a_chrome : Caps
 caps_of_a_chrome =
-    record caps { queues = 3; groups = 4; engines = 2; total_size = 32; read_buffers = 40; slots = 6 }
+    let few = record caps { queues = 3; groups = 4; engines = 2; slots = 6; max_batch_shift = 5 } in
+    record few { total_size = 32; read_buffers = 40 }
 
 abbrev pub queue_of_a_chrome : QueueConfig
 queue_of_a_chrome = record zero_queue { size = 9; max_xfer_shift = 20 }

@@ -72,7 +72,8 @@ ghost use Rattle.dsa_count.specs.Totals.{AreTotalsOfDocument};
 ghost use Rattle.dsa_draw.specs.{Drawings.{IsDrawingOf}, Ranges.{all_steps}};
 ghost use Rattle.dsa_expand.specs.Friendly.{IsMadeOfFriendly};
 ghost use Rattle.dsa_cli.specs.Reports.{IsReportBegun, IsReportCutShort, IsReportOf, IsReported};
-ghost use Rattle.dsa_cli.specs.Reports.{IsTooLongCut, IsTooLongTold, text_if_too_long};
+ghost use Rattle.dsa_cli.specs.Reports.{IsTooLongCut, IsTooLongTold, streamed_form};
+ghost use Rattle.dsa_cli.specs.Reports.{text_if_too_long};
 ghost use Rattle.dsa_cli.specs.Endings.{IsEnd, IsEndedBy, IsFaultTold, IsQuiet, IsStoppedBy};
 ghost use Rattle.dsa_cli.specs.Endings.{IsRefusal, IsStoppedOnTheWay};
 ghost use Rattle.dsa_cli.specs.Endings.{IsUnwritten, IsWriteRefused};
@@ -93,7 +94,8 @@ ghost use Rattle.dsa_cli.specs.CommandLine.{IsReportWritten, IsServed, IsServedI
 ghost use Rattle.dsa_cli.specs.CommandLine.{NameNothing, has_friendly_form};
 ghost use Rattle.dsa_cli.specs.CommandLine.{NameReport, NameServe, NameThreads, command_in};
 ghost use Rattle.dsa_cli.specs.CommandLine.{faults_of_words, check_app, conform_app, draw_app};
-ghost use Rattle.dsa_cli.specs.CommandLine.{explain_app, threads_app, trace_app};
+ghost use Rattle.dsa_cli.specs.CommandLine.{explain_app, program_app, serve_app, threads_app};
+ghost use Rattle.dsa_cli.specs.CommandLine.{trace_app};
 ghost use Rattle.clap.specs.declared.builder.value_parser.ValueParser.TheVariants.{Signed};
 ghost use Rattle.dsa_cli.specs.Worked.{page_move_bytes, move_under, load, sized, threads_with};
 ghost use Rattle.dsa_cli.specs.Worked.{option_row, trace_rows, two_retries};
@@ -165,7 +167,8 @@ pub fn words_understood()
 pub fn options_of_commands()
     ensures names { map {B = Text × List Text}
         (λ command. (command.top.name, map (λ option. option.id) command.top.rules))
-        (check_app ∷ explain_app ∷ trace_app ∷ draw_app ∷ conform_app ∷ threads_app ∷ [])
+        (check_app ∷ explain_app ∷ trace_app ∷ draw_app ∷ conform_app ∷ serve_app ∷ threads_app
+        ∷ [])
         ≡ (codes "check", codes "json" ∷ codes "source" ∷ codes "color" ∷ codes "strict" ∷ [])
         ∷ (codes "explain", codes "name" ∷ codes "client" ∷ codes "only" ∷ codes "seen" ∷ [])
         ∷ (
@@ -174,6 +177,7 @@ pub fn options_of_commands()
         )
         ∷ (codes "draw", codes "steps" ∷ codes "seen" ∷ [])
         ∷ (codes "conform", codes "all" ∷ codes "friendly" ∷ [])
+        ∷ (codes "serve", codes "friendly" ∷ [])
         ∷ (
           codes "threads",
           codes "clients" ∷ codes "engines" ∷ codes "each" ∷ codes "turns"
@@ -192,6 +196,12 @@ pub fn options_of_commands()
         ∷ (codes "16" ∷ []) ∷ (codes "8" ∷ []) ∷ (codes "4" ∷ []) ∷ (codes "32" ∷ []) ∷ [] }
     ensures values { map (λ option. option.value_names) explain_app.top.rules
         ≡ 1 ∷ 1 ∷ 1 ∷ 0 ∷ [] }
+    ensures words { map (λ option. option.long) draw_app.top.rules
+        ≡ Some (codes "steps") ∷ Some (codes "seen") ∷ [] }
+    ensures commands { map (λ command. command.name) program_app.subs
+        ≡ codes "check" ∷ codes "explain" ∷ codes "trace" ∷ codes "count" ∷ codes "draw"
+        ∷ codes "conform" ∷ codes "expand" ∷ codes "serve" ∷ codes "threads" ∷ [] }
+    ensures version { program_app.top.has_version ≡ true }
 {}
 
 /// The numbers of the options, where they are not given and where they are.
@@ -508,6 +518,7 @@ pub fn dialogue_served()
     ensures strictly { (had left held holds : Option (List ℕ))
         (served : IsServed (option_row (codes "friendly") (codes "false")) had left held holds)
         → served.0 ≡ Strict }
+    ensures forms { map has_friendly_form (Strict ∷ Friendly ∷ []) ≡ false ∷ true ∷ [] }
     ensures more_to_read { (rows : List Row)
         → ¬ IsServed rows (Some (codes "ab")) (Some (codes "b")) None None }
     ensures given_back { (rows : List Row)
@@ -1023,6 +1034,9 @@ pub fn reports_begun()
         → IsTextWritten (AreNamedLinesOfStart Json) had left held holds }
     ensures no_drawing { (had left held holds : Option (List ℕ))
         → ¬ IsReportLeft (codes "draw", []) had left held holds }
+    ensures streamed { map streamed_form
+        (Trace Table Own ∷ Trace Json Own ∷ Trace Json Seen ∷ Chrome Own ∷ Count ∷ [])
+        ≡ Some Table ∷ Some Json ∷ None ∷ None ∷ None ∷ [] }
     ensures no_seen_trace { (form : TraceForm) (had left held holds : Option (List ℕ))
         → ¬ IsReportBegun (Trace form Seen) had left held holds }
     ensures trace_cut { (had left held holds : Option (List ℕ))

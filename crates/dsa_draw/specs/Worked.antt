@@ -36,6 +36,7 @@ use Rattle.dsa_draw.specs.Bands.{lines_text, frame_text, name_text, band_range_t
 use Rattle.dsa_draw.specs.Bands.{again_place_text, phase_line_text, phase_line_title}
 use Rattle.dsa_draw.specs.Columns.{title_text, grid_text, label_text}
 use Rattle.dsa_draw.specs.Rows.{command_place_text, ended_head_text, names_above_text}
+use Rattle.dsa_draw.specs.Bars.{NotedBars}
 use Rattle.dsa_draw.specs.{Active.{finished_text, wait_words}, Labels.{bar_label_text}}
 use Rattle.dsa_draw.specs.Engines.{kind_phrase, bar_title_text, batch_title_text, engine_name_text, sign_text}
 
@@ -87,13 +88,19 @@ move_of_a_page = record { pasid = 5; flags = 0; op = 3; size = 4096 }
 abbrev pub bar_of_a_move : Bar
 bar_of_a_move = record (bar_from 12 None 2 None) { desc = Some move_of_a_page }
 
--- all of so many steps
-abbrev pub whole_run : ℕ → Extent
-whole_run last = record { range = record { first = 0; end = last }; last = last }
+-- two names, of which the second has a bar
+abbrev pub one_of_two_noted : NotedBars
+one_of_two_noted = record { bars = bar_of_a_move ∷ []; places = None ∷ Some 0 ∷ []; clients = Some 7 ∷ None ∷ [] }
 
--- some of nine steps
+-- the steps from one on to before another, of so many
+abbrev pub some_of_a_run : ℕ → ℕ → ℕ → Extent
+some_of_a_run first end last = record { range = record { first = first; end = end }; last = last }
+
+abbrev pub whole_run : ℕ → Extent
+whole_run last = some_of_a_run 0 last last
+
 abbrev pub steps_two_to_four : Extent
-steps_two_to_four = record { range = record { first = 2; end = 5 }; last = 9 }
+steps_two_to_four = some_of_a_run 2 5 9
 
 -- the lanes of an engine from 200 on: two, and three of members, of a run of nine steps
 abbrev pub five_lanes : Lanes

@@ -36,20 +36,20 @@ ghost use Rattle.dsa_draw.specs.declared.phases.Holder.TheVariants as holder;
 ghost use Rattle.dsa_draw.specs.Ranges.{all_steps, column_of, ended_before, is_in_range, moments_in, range_of_text, within};
 ghost use Rattle.dsa_draw.specs.Bands.{again_text, is_same_phase, phase_in, phase_of_queue, phases_text};
 ghost use Rattle.dsa_draw.specs.Bands.{bands_end, bands_of, bands_text, band_text, level_height, level_in, peak_text, peaks_of, raised, line_text, class_text, close_text, frame_text, highest, lower_end, name_text, next_step, next_top, path_text, band_range_text, line_value};
-ghost use Rattle.dsa_draw.specs.Moments.{batch_after, desc_brought, own_brought, ticket_brought, group_level_of, IsMomentOf, level_with, queue_level_of, queue_mark};
+ghost use Rattle.dsa_draw.specs.Moments.{batch_after, desc_brought, own_brought, own_name_of, ticket_brought, group_level_of, IsMomentOf, level_with, queue_level_of, queue_mark};
 ghost use Rattle.dsa_draw.specs.Drawings.{AreMoments, drawing_text, IsDrawnOf, IsStoryOf, step_count, story_bands_end, story_bands_text, story_engines_text, story_height};
 ghost use Rattle.dsa_draw.specs.Columns.{column_text, columns_text, fifth_text, step_words, title_text};
 ghost use Rattle.dsa_explain_lines.specs.Parts.{part_of};
 ghost use Rattle.dsa_named.specs.Steps.{named_visit};
 ghost use Rattle.dsa_draw.specs.Pages.{page_width, page_height, page_size_text, view_text, told_text, run_title_text, description_text, shapes_text, legend_text, sheet_text, style_text, head_text, foot_text, row_name_text, rule_text, mark_text, xml_text};
-ghost use Rattle.dsa_draw.specs.Rows.{label_above_text, asker_of, asker_mark_text, asker_text, rows_between, fate_mark, fates_text, names_above_text, marks_above_text, names_again_text, rows_above_text};
-ghost use Rattle.dsa_draw.specs.Bars.{bars_of, end_step, engine_of_actor, submitter_in, client_of_actor, is_batch_named, free_place, in_lanes, all_lanes, lane_number, lanes_taken, is_bar_of};
+ghost use Rattle.dsa_draw.specs.Rows.{label_above_text, steps_above_text, asker_of, asker_mark_text, asker_text, rows_between, fate_mark, fates_text, names_above_text, marks_above_text, names_again_text, rows_above_text};
+ghost use Rattle.dsa_draw.specs.Bars.{bars_of, noted_in, with_name, end_step, engine_of_actor, submitter_in, client_of_actor, is_batch_named, free_place, in_lanes, all_lanes, lane_number, lanes_taken, is_bar_of};
 ghost use Rattle.dsa_count.specs.Waits.{active_in, reports_end};
-ghost use Rattle.dsa_draw.specs.Active.{wait_phrase, waits_from, waits_text};
+ghost use Rattle.dsa_draw.specs.Active.{wait_label_text, wait_phrase, waits_from, waits_text};
 ghost use Rattle.dsa_draw.specs.Labels.{is_fitting, bar_label_text, label_of, label_with, letters_in, operation_part, sign_letters, sign_of, sign_of_fate};
-ghost use Rattle.dsa_draw.specs.Engines.{bar_text, bars_text, end_sign_text, batches_text, bars_in_lanes, box_part_text, bar_title_text, client_phrase, work_phrase, class_of_end, class_of_fate, end_phrase, engine_bottom, engine_end, engine_marks_text, engine_part_text, engines_end, engines_text, fate_phrase, has_steps, boxes_text, is_shown, is_step_by, lane_by, lanes_high, lanes_of, own_at, parent_phrase};
+ghost use Rattle.dsa_draw.specs.Engines.{bar_text, bars_text, end_sign_text, batches_text, bars_in_lanes, box_part_text, bar_title_text, client_phrase, work_phrase, class_of_end, class_of_fate, end_phrase, engine_bottom, engine_end, engine_marks_text, engine_name_text, engine_part_text, engines_end, engines_text, fate_phrase, has_steps, boxes_text, is_shown, is_step_by, lane_by, lanes_high, lanes_of, own_at, parent_phrase};
 ghost use Rattle.dsa_draw.specs.Worked.{bar_from, bar_of_a_move, drain_issued, end_at, ended_row, five_lanes, group_band, moment_of, moments_of_a_batch, moments_of_a_drain, move_of_a_page, queue_band};
-ghost use Rattle.dsa_draw.specs.Worked.{caps_of_a_drawing, device_of_a_drawing, idle_step, level, moment_in_phase, numbered, steps_two_to_four, whole_run, moment_of_a_device, moments_of_a_third_name, moments_with_levels, moment_with_names, of_a_note, of_an_own_name, step_of_a_device, step_with_names, story, story_of_a_device, story_with, vector, visit_of_a_device, visit_with_names};
+ghost use Rattle.dsa_draw.specs.Worked.{caps_of_a_drawing, device_of_a_drawing, idle_step, level, moment_in_phase, numbered, steps_two_to_four, some_of_a_run, one_of_two_noted, whole_run, moment_of_a_device, moment_of_a_story, moments_of_a_third_name, moments_with_levels, moment_with_names, of_a_note, of_an_own_name, step_of_a_device, step_with_names, story, story_of_a_device, story_with, vector, visit_of_a_device, visit_with_names};
 ghost use Rattle.dsa_draw.specs.Worked.{device_of_a_large_move, device_with_an_empty_queue, end_of_a_large_move, moment_of_a_large_move, moments_of_a_large_move, moment_with_reason, no_command_is_utf8, no_group_is_utf8, no_reason, note_is_utf8, of_a_large_move, of_an_empty_queue, of_no_command, of_no_group, text_with_bytes};
 
 /// The width of a page, its head, names of rows, lines, and marks in the column of a step.
@@ -157,22 +157,22 @@ pub fn columns()
         (record (moment_of levels (stepped event.Poll (reply.Poll Nothing)) None 0) { number = 7 })
         ≡ codes "<rect class=\"column\" x=\"140\" y=\"80\" width=\"14\" height=\"220\"><title>step "
         ++ codes "7: poll -&gt; nothing</title></rect>\n" }
-    ensures fifths { map (fifth_text 300 5) (4 ∷ 5 ∷ [])
+    ensures fifths { map (fifth_text 300 3) (4 ∷ 5 ∷ [])
         ≡ []
-        ∷ (codes "<path class=\"grid\" d=\"M182 80v220\"/>\n"
-        ++ codes "<text x=\"184\" y=\"91\">5</text>\n")
+        ∷ (codes "<path class=\"grid\" d=\"M154 80v220\"/>\n"
+        ++ codes "<text x=\"156\" y=\"91\">5</text>\n")
         ∷ [] }
     ensures of_a_batch { (levels : Vec Level Global)
-        → columns_text 300 3 (numbered 3 (moments_of_a_batch levels))
-        ≡ codes "<rect class=\"column\" x=\"154\" y=\"80\" width=\"14\" height=\"220\"><title>s"
+        → columns_text 300 1 (numbered 3 (moments_of_a_batch levels))
+        ≡ codes "<rect class=\"column\" x=\"126\" y=\"80\" width=\"14\" height=\"220\"><title>s"
         ++ codes "tep 3: submit q0 limited movdir client 5 fill 0 bytes -&gt; accepted 0</title></"
-        ++ codes "rect>\n<rect class=\"column\" x=\"168\" y=\"80\" width=\"14\" height=\"220\"><t"
+        ++ codes "rect>\n<rect class=\"column\" x=\"140\" y=\"80\" width=\"14\" height=\"220\"><t"
         ++ codes "itle>step 4: dispatch e1 -&gt; taken 0 from 0</title></rect>\n<path class=\"gri"
-        ++ codes "d\" d=\"M182 80v220\"/>\n<text x=\"184\" y=\"91\">5</text>\n<rect class=\"colu"
-        ++ codes "mn\" x=\"182\" y=\"80\" width=\"14\" height=\"220\"><title>step 5: fetch e1 fil"
-        ++ codes "l 0 bytes -&gt; fetched 1</title></rect>\n<rect class=\"column\" x=\"196\" y=\""
+        ++ codes "d\" d=\"M154 80v220\"/>\n<text x=\"156\" y=\"91\">5</text>\n<rect class=\"colu"
+        ++ codes "mn\" x=\"154\" y=\"80\" width=\"14\" height=\"220\"><title>step 5: fetch e1 fil"
+        ++ codes "l 0 bytes -&gt; fetched 1</title></rect>\n<rect class=\"column\" x=\"168\" y=\""
         ++ codes "80\" width=\"14\" height=\"220\"><title>step 6: start e1 -&gt; started 1</title"
-        ++ codes "></rect>\n<rect class=\"column\" x=\"210\" y=\"80\" width=\"14\" height=\"220\""
+        ++ codes "></rect>\n<rect class=\"column\" x=\"182\" y=\"80\" width=\"14\" height=\"220\""
         ++ codes "><title>step 7: finish e1 name 1 success -&gt; done 01</title></rect>\n" }
 {}
 
@@ -280,8 +280,8 @@ pub fn bars()
         ∷ [] }
     ensures above { (levels : Vec Level Global)
         → marks_above_text (ended_row 1 (Completed 1) ∷ []) 0 0
-        (numbered 0 (moments_of_a_batch levels))
-        ≡ codes "<circle class=\"done\" cx=\"119\" cy=\"104\" r=\"3\"/>\n<g><title>step 4\nfate 1 -"
+        (numbered 2 (moments_of_a_batch levels))
+        ≡ codes "<circle class=\"done\" cx=\"119\" cy=\"104\" r=\"3\"/>\n<g><title>step 6\nfate 1 -"
         ++ codes " completed 01\n</title><rect class=\"column\" x=\"168\" y=\"160\" width=\"14\" h"
         ++ codes "eight=\"16\"/><circle class=\"done\" cx=\"175\" cy=\"168\" r=\"3\"/>\n</g>\n" }
     ensures ended_once { (levels : Vec Level Global)
@@ -293,12 +293,32 @@ pub fn bars()
         ++ codes "ompleted 01\n</title><rect class=\"column\" x=\"112\" y=\"160\" width=\"14\" hei"
         ++ codes "ght=\"16\"/><circle class=\"done\" cx=\"119\" cy=\"168\" r=\"3\"/>\n</g>\n<path "
         ++ codes "class=\"failed\" d=\"M130 117l6 6m0-6l-6 6\"/>\n" }
+    ensures in_a_range { (levels : Vec Level Global)
+        → steps_above_text (record { first = 1; end = 2 })
+        (ended_row 4 Abandoned ∷ ended_row 5 (Completed 1) ∷ [])
+        (map (moment_of levels (Refused no_command) None) (1 ∷ 2 ∷ []))
+        ≡ codes "<path class=\"failed\" d=\"M116 117l6 6m0-6l-6 6\"/>\n<g><title>step 0\nfate 5 - c"
+        ++ codes "ompleted 01\n</title><rect class=\"column\" x=\"112\" y=\"160\" width=\"14\" hei"
+        ++ codes "ght=\"16\"/><circle class=\"done\" cx=\"119\" cy=\"168\" r=\"3\"/>\n</g>\n" }
     ensures not_started { (levels : Vec Level Global)
         → bars_of (take 3 (moments_of_a_batch levels)) []
         ≡ record (bar_from 0 None 1 None) { desc = Some fill; client = Some 5; is_batch = true }
         ∷ record (bar_from 1 (Some 0) 2 None) { desc = Some move_of_a_page; started = None }
         ∷ [] }
     ensures no_rows { rows_above_text (whole_run 3) [] [] ≡ names_above_text 3 }
+    ensures noted { (memory : Global)
+        → noted_in
+        (record {
+          bars = vector memory (bar_of_a_move ∷ []) (lit≤ tt);
+          places = vector memory (None ∷ Some 0 ∷ []) (lit≤ tt);
+          clients = vector memory (Some 7 ∷ None ∷ []) (lit≤ tt);
+        })
+        ≡ one_of_two_noted }
+    ensures named { with_name (Some 4) one_of_two_noted
+        ≡ record one_of_two_noted {
+          places = None ∷ Some 0 ∷ None ∷ [];
+          clients = Some 7 ∷ None ∷ Some 4 ∷ [];
+        } }
 {}
 
 /// Bars beside one another have lanes of their own; a lane is taken again once its bar has ended.
@@ -356,8 +376,9 @@ pub fn engines()
         ≡ codes ", still held" ∷ codes " to 5: abandoned" ∷ [] }
     ensures parents { map parent_phrase (None ∷ Some 7 ∷ [])
         ≡ [] ∷ codes ", member of batch 7" ∷ [] }
-    ensures title { bar_title_text [] (bar_from 12 (Some 7) 2 None)
-        ≡ codes "<title>entry 12, member of batch 7, on e1 from step 2, still held</title>" }
+    ensures title { bar_title_text [] (record (bar_from 12 (Some 7) 2 None) { client = Some 3 })
+        ≡ codes "<title>entry 12, client 3, member of batch 7, on e1 from step 2, still held</tit"
+        ++ codes "le>" }
     ensures batch_title { bar_title_text []
         (record (bar_from 12 None 2 (end_at 5 Abandoned)) { is_batch = true })
         ≡ codes "<title>batch 12, on e1 from step 2 to 5: abandoned</title>" }
@@ -393,11 +414,16 @@ pub fn engines()
         → map (own_at (moment_of_a_device memory ∷ moment_with_names memory ∷ []))
         (0 ∷ 1 ∷ 2 ∷ [])
         ≡ None ∷ Some of_an_own_name ∷ None ∷ [] }
+    ensures own_name { map
+        (λ name. own_name_of name ((7, codes "b") ∷ (6, codes "a") ∷ [])) (5 ∷ 6 ∷ [])
+        ≡ None ∷ Some (codes "a") ∷ [] }
     ensures bar_with_names { (memory : Global)
-        → bar_text five_lanes (moment_with_names memory ∷ []) (bar_from 6 None 0 None)
-        ≡ codes "<g><title>entry 6 is a&lt;b, on e1 from step 0, still held</title><rect class=\"h"
-        ++ codes "eld\" x=\"112\" y=\"200\" width=\"126\" height=\"11\" rx=\"2\"/><text class="
-        ++ codes "\"label\" x=\"114\" y=\"209\">6 a&lt;b</text></g>\n" }
+        → bar_text five_lanes
+        (replicate 2 (moment_of_a_device memory) ++ moment_with_names memory ∷ [])
+        (bar_from 6 None 2 None)
+        ≡ codes "<g><title>entry 6 is a&lt;b, on e1 from step 2, still held</title><rect class=\"h"
+        ++ codes "eld\" x=\"140\" y=\"200\" width=\"98\" height=\"11\" rx=\"2\"/><text class="
+        ++ codes "\"label\" x=\"142\" y=\"209\">6 a&lt;b</text></g>\n" }
     ensures signs_of_fates { map sign_of_fate
         (Completed 1 ∷ Completed 0 ∷ Completed 2 ∷ Aborted 4 ∷ Abandoned ∷ [])
         ≡ None ∷ Some Cross ∷ Some Cross ∷ Some Slash ∷ Some Slash ∷ [] }
@@ -550,6 +576,9 @@ pub fn names_again()
     ensures twice { again_text (codes "clients") None 201 96
         ≡ codes "<text class=\"again\" x=\"1514\" y=\"107\">clients</text>\n<text class=\"again\" "
         ++ codes "x=\"2914\" y=\"107\">clients</text>\n" }
+    ensures of_an_engine { engine_name_text 3 101 200
+        ≡ codes "<text x=\"4\" y=\"211\">engine 3</text>\n<text class=\"again\" x=\"1514\" y=\"211"
+        ++ codes "\">engine 3</text>\n" }
     ensures above { names_again_text 101
         ≡ codes "<text class=\"again\" x=\"1514\" y=\"107\">clients</text>\n<text class=\"again\" "
         ++ codes "x=\"1514\" y=\"123\">administrator</text>\n<"
@@ -567,12 +596,13 @@ pub fn ranges()
         ≡ Some (record { first = 12; end = 4294967295 }) }
     ensures open_begin { range_of_text (codes "..40") ≡ Some (record { first = 0; end = 41 }) }
     ensures open_both { range_of_text (codes "..") ≡ Some all_steps }
-    ensures largest { range_of_text (codes "4294967295..4294967295")
-        ≡ Some (record { first = 4294967295; end = 4294967295 }) }
+    ensures largest { map range_of_text
+        (codes "4294967295..4294967295" ∷ codes "4294967295.." ∷ [])
+        ≡ replicate 2 (Some (record { first = 4294967295; end = 4294967295 })) }
     ensures none { map range_of_text
-        ([] ∷ codes "12" ∷ codes "12.40" ∷ codes "40..12" ∷ codes "1..2..3" ∷ codes "+1..2"
-        ∷ codes "1..x" ∷ codes "4294967296.." ∷ [])
-        ≡ None ∷ None ∷ None ∷ None ∷ None ∷ None ∷ None ∷ None ∷ [] }
+        ([] ∷ codes "12" ∷ codes "1.49" ∷ codes "1.-9" ∷ codes "1-.9" ∷ codes "40..12"
+        ∷ codes "1..2..3" ∷ codes "+1..2" ∷ codes "1..:" ∷ codes "..4294967296" ∷ [])
+        ≡ replicate 10 None }
     ensures within { map (within 9)
         (record { first = 2; end = 5 } ∷ all_steps ∷ record { first = 11; end = 12 } ∷ [])
         ≡ record { first = 2; end = 5 } ∷ record { first = 0; end = 9 }
@@ -585,9 +615,11 @@ pub fn ranges()
         ≡ false ∷ true ∷ [] }
     ensures after { map (λ begin. is_in_range (record { first = 2; end = 5 }) begin 9) (4 ∷ 5 ∷ [])
         ≡ true ∷ false ∷ [] }
-    ensures titles { map run_title_text (whole_run 9 ∷ steps_two_to_four ∷ [])
+    ensures titles { map run_title_text
+        (whole_run 9 ∷ steps_two_to_four ∷ some_of_a_run 2 3 9 ∷ some_of_a_run 1 1 1 ∷ [])
         ≡ codes "<title>Run of 9 steps" ∷ codes "<title>3 steps from step 2 of a run of 9 steps"
-        ∷ [] }
+        ∷ codes "<title>1 step from step 2 of a run of 9 steps"
+        ∷ codes "<title>0 steps from step 1 of a run of 1 step" ∷ [] }
     ensures numbers { (levels : Vec Level Global)
         → map (λ moment. moment.number)
         (moments_in (record { first = 2; end = 4 }) (numbered 0 (moments_of_a_batch levels)))
@@ -598,8 +630,8 @@ pub fn ranges()
     ensures ended { (levels : Vec Level Global)
         → map (λ first. ended_before (record { first = first; end = 9 })
         (moments_of_a_batch levels))
-        (0 ∷ 4 ∷ 5 ∷ [])
-        ≡ 0 ∷ 0 ∷ 1 ∷ [] }
+        (0 ∷ 4 ∷ 5 ∷ 7 ∷ [])
+        ≡ 0 ∷ 0 ∷ 1 ∷ 0 ∷ [] }
     ensures bars { map (λ bar. boxes_text steps_two_to_four bar None 200)
         (bar_from 7 None 0 (end_at 3 (Completed 1)) ∷ bar_from 7 None 3 None ∷ [])
         ≡ (codes "<rect class=\"success\" x=\"112\" y=\"200\" width=\"14\" height=\"11\" rx=\"2\"/"
@@ -649,24 +681,34 @@ pub fn active()
     ensures phrases { map (wait_phrase 9 1) (None ∷ Some 2 ∷ Some 4 ∷ [])
         ≡ codes ": still active after 7 steps" ∷ codes " to 2: finished after 1 step"
         ∷ codes " to 4: finished after 3 steps" ∷ [] }
+    ensures one_step { wait_phrase 3 1 None ≡ codes ": still active after 1 step" }
+    ensures labels { map (λ pasid. wait_label_text 2 8 (DrainPasid pasid)) (5 ∷ 12 ∷ [])
+        ≡ codes "<text class=\"label\" x=\"142\" y=\"155\">drain-pasid 5</text>" ∷ [] ∷ [] }
     ensures narrow { waits_text (whole_run 9)
-        (record { command = DrainPasid 5; begin = 1; end = Some 3 } ∷ [])
+        (record { command = DrainPasid 5; begin = 1; end = Some 3 }
+        ∷ record { command = DrainPasid 6; begin = 4; end = Some 5 } ∷ [])
         ≡ codes "<g><title>drain-pasid 5, active from step 1 to 3: finished after 2 steps</title><r"
         ++ codes "ect class=\"active\" x=\"126\" y=\"146\" width=\"28\" height=\"11\" rx=\"2\"/></"
-        ++ codes "g>\n" }
+        ++ codes "g>\n<g><title>drain-pasid 6, active from "
+        ++ codes "step 4 to 5: finished after 1 step</title>"
+        ++ codes "<rect class=\"active\" x=\"168\" y=\"146\" width=\"14\" height=\"11\" rx=\"2\"/>"
+        ++ codes "</g>\n" }
     ensures wide { waits_text (whole_run 9)
         (record { command = DrainPasid 5; begin = 1; end = None } ∷ [])
         ≡ codes "<g><title>drain-pasid 5, active from step 1: still active after 7 steps</title><re"
         ++ codes "ct class=\"active\" x=\"126\" y=\"146\" width=\"112\" height=\"11\" rx=\"2\"/><t"
         ++ codes "ext class=\"label\" x=\"128\" y=\"155\">drain-pasid 5</text></g>\n" }
     ensures above { (levels : Vec Level Global)
-        → rows_above_text (whole_run 4) [] (moment_of levels drain_issued None 0 ∷ [])
-        ≡ names_above_text 4
+        → rows_above_text (whole_run 101) [] (moment_of levels drain_issued None 0 ∷ [])
+        ≡ names_above_text 101
         ++ (codes "<text transform=\"translate(122 76) rotate(-60)\">drain-pasid 5</text>\n<circl"
         ++ codes "e c"
         ++ (codes "lass=\"wait\" cx=\"119\" cy=\"120\" r=\"3\"/>\n<g><title>drain-pasid 5, active "
-        ++ (codes "from step 0: still active after 3 steps</title><rect class=\"active\" x=\"112\" "
-        ++ codes "y=\"146\" width=\"56\" height=\"11\" rx=\"2\"/></g>\n"))) }
+        ++ (codes "from step 0: still active after 100 steps"
+        ++ codes "</title><rect class=\"active\" x=\"112\" "
+        ++ (codes "y=\"146\" width=\"1414\" height=\"11\" r"
+        ++ codes "x=\"2\"/><text class=\"label\" x=\"114\" "
+        ++ (codes "y=\"155\">drain-pasid 5</text></g>\n" ++ names_again_text 101))))) }
 {}
 
 /// What is filled of a queue and of a group, the lines of a band, and the bars and the batches of
@@ -677,12 +719,19 @@ pub fn levels_and_lines()
         ≡ codes "<path class=\"filled\" d=\"M112 200M112 200V200Z\"/>\n" }
     ensures mark_line { line_text 200 4 (queue_band 0) Mark []
         ≡ codes "<path class=\"mark\" d=\"M112 200M112 200\"/>\n" }
-    ensures band { band_text 3 152 (level 5 8 16) (queue_band 4) []
-        ≡ codes "<path class=\"frame\" d=\"M112 152H154V200H112Z\"/>\n<path class=\"filled\" d=\""
-        ++ codes "M112 200M112 200V200Z\"/>\n<path class=\"mark\" d=\"M112 200M112 200\"/>\n<path"
-        ++ codes " class=\"limit\" d=\"M112 200M112 200\"/>\n<text x=\"4\" y=\"163\">queue 4</tex"
-        ++ codes "t>\n<text x=\"4\" y=\"176\">0 to 16</text>\n<text x=\"4\" y=\"189\">peak 5</tex"
-        ++ codes "t>\n" }
+    ensures band { (memory : Global)
+        → band_text 101 152 (level 5 8 16) (queue_band 0)
+        (moment_of_a_story memory 0 (idle_step 0) 8 On 0 ∷ [])
+        ≡ codes "<path class=\"frame\" d=\"M112 152H1526V200H112Z\"/>\n<path class=\"filled\" d=\""
+        ++ codes "M112 200M112 200V176H126V200Z\"/>\n<path "
+        ++ codes "class=\"mark\" d=\"M112 200M112 200V191H1"
+        ++ codes "26\"/>\n<path class=\"limit\" d=\"M112 20"
+        ++ codes "0M112 200V188H126\"/>\n<text x=\"4\" y=\""
+        ++ codes "163\">queue 0</text>\n<text x=\"4\" y=\"1"
+        ++ codes "76\">0 to 16</text>\n<text x=\"4\" y=\"18"
+        ++ codes "9\">peak 5</text>\n<path class=\"on\" d=\""
+        ++ codes "M112 150h14\"><title>queue 0 on</title></"
+        ++ codes "path>\n<text class=\"again\" x=\"1514\" y=\"163\">queue 0</text>\n" }
     ensures two_levels { path_text 200 4 (3 ∷ 1 ∷ []) ≡ codes "M112 200M112 200V164H126V188H140" }
     ensures level { map (queue_level_of (standing caps_of_a_run 9 (take 6 records_of_a_run)))
         (0 ∷ 1 ∷ [])
@@ -757,8 +806,8 @@ pub fn drawn_together()
     ensures count { (levels : Vec Level Global)
         → step_count (moments_of_a_batch levels)
         ≡ 5 }
-    ensures later { fates_text 4 4 (ended_row 4 (Completed 1) ∷ ended_row 5 Abandoned ∷ [])
-        ≡ codes "<g><title>step 4\nfate 4 - completed 01\nfate 5 - abandoned\n</title><rect class="
+    ensures later { fates_text 4 6 (ended_row 4 (Completed 1) ∷ ended_row 5 Abandoned ∷ [])
+        ≡ codes "<g><title>step 6\nfate 4 - completed 01\nfate 5 - abandoned\n</title><rect class="
         ++ codes "\"column\" x=\"168\" y=\"160\" width=\"14\" height=\"16\"/><text class=\"label\""
         ++ codes " x=\"170\" y=\"183\">2</text><path class=\"failed\" d=\"M172 165l6 6m0-6l-6 6\"/"
         ++ codes ">\n</g>\n" }

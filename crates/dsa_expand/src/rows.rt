@@ -13,6 +13,7 @@ ghost use Rattle.dsa_expand.specs.Steps.{given_onto, is_friendly, is_said_by, kn
 ghost use Rattle.dsa_expand.specs.Steps.{object_with, strict_set, strict_step, with_given};
 ghost use Rattle.dsa_expand.specs.Single.{Itself, Strictly, StuckAt, sense_of};
 ghost use Rattle.dsa_expand.specs.Expansion.{head_pairs, read_of, strict_document};
+ghost use Rattle.dsa_expand.specs.Layout.{key_with_colon};
 ghost use Rattle.dsa_expand.specs.Worked.{an_object, command_names, digits_said, finish_named};
 ghost use Rattle.dsa_expand.specs.Worked.{list_with, movdir_with, operand_at, queues_at};
 ghost use Rattle.dsa_expand.specs.Worked.{strict_finish, text, word_with, zeros};
@@ -197,6 +198,13 @@ pub fn of_meanings()
     ensures other { map (sense_of (Some []))
         (null ∷ an_object ((codes "do", text (codes "show")) ∷ []) ∷ [])
         ≡ Itself ∷ Itself ∷ [] }
+{}
+
+/// Keys, as a strict document has them.
+#[tactic(auto, unfolding(json::specs::Print::escape_byte))]
+pub fn of_layouts()
+    ensures keys { map key_with_colon (codes "as" ∷ codes "a\"b" ∷ [] ∷ [])
+        ≡ codes "\"as\": " ∷ codes "\"a\\\"b\": " ∷ codes "\"\": " ∷ [] }
 {}
 
 /// Documents.

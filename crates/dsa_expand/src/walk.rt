@@ -7,7 +7,7 @@ ghost use Rattle.serde_json.specs.{Data.{Data}, View.{view}};
 ghost use Rattle.dsa_regs.specs.declared.Caps.{Caps};
 ghost use Rattle.dsa_scenario.specs.declared.faults.ScenarioFault.{ScenarioFault};
 ghost use Rattle.dsa_scenario.specs.{Actions.{action_of}, Document.{IsOpenable, IsOpeningFault}};
-ghost use Rattle.dsa_scenario.specs.{Fields.{text_of}, Run.{ticket_given_by}};
+ghost use Rattle.dsa_scenario.specs.Fields.{text_of};
 ghost use Rattle.dsa_expand.specs.Members.{AreFlat, given_as, pairs_of_step};
 ghost use Rattle.dsa_expand.specs.Steps.{Given, with_given, object_with, strict_step};
 ghost use Rattle.dsa_expand.specs.Expansion.{IsStuckAt};
@@ -15,8 +15,8 @@ ghost use Rattle.dsa_expand.specs.Walk.{IsWalkedOver};
 
 use crate::members::StrictStep;
 use crate::steps::{GivenName, strict_step};
-use dsa_book::{FetchAnswer, Reply, SubmitAnswer};
 use dsa_cells::LinkedStore;
+use dsa_named::name_given;
 use dsa_regs::Caps;
 use dsa_scenario::{Head, Record, Run, ScenarioFault, ask, event_for, note_ticket, open_run};
 use serde_json::Value;
@@ -50,20 +50,6 @@ pub fn open_walk<'v>(alloc: Global, caps: Caps, capacity: u64) -> Result<Walk<'v
         given: Vec::new(alloc),
         strict: Vec::new(alloc),
     })
-}
-
-// The name that a step was given.
-fn name_given(entry: &Record) -> Option<u32>
-    ensures { result ≡ option_map (λ ticket. ticket.name) (ticket_given_by entry.now) }
-{
-    let Record::Stepped(step) = entry else {
-        return None;
-    };
-    match step.reply {
-        Reply::Submit(SubmitAnswer::Accepted(ticket)) => Some(ticket.name),
-        Reply::Fetch(FetchAnswer::Fetched(ticket)) => Some(ticket.name),
-        _ => None,
-    }
 }
 
 // The text that a step has at `as`.

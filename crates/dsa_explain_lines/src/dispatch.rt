@@ -65,8 +65,8 @@ pub fn add_queue_reason(text: &mut String, queue: u16, name: u32, reason: &Queue
     }
 }
 
-// The name of the front of the queue.
-fn front_name<S: EntryStore>(device: &Device<S>, queue: u16) -> u32
+/// The name of the front of the queue.
+pub fn front_name<S: EntryStore>(device: &Device<S>, queue: u16) -> u32
     requires { queue < device.now.caps.queues }
     ensures { result ≡ name_of_entry (front_of device.now.state.work queue) }
 {
@@ -77,8 +77,8 @@ fn front_name<S: EntryStore>(device: &Device<S>, queue: u16) -> u32
     }
 }
 
-// Whether a queue below this number has a reason.
-fn any_reason<S: EntryStore>(device: &Device<S>, engine: u16, queues: u16) -> bool
+/// Whether a queue below this number has a reason.
+pub fn any_reason<S: EntryStore>(device: &Device<S>, engine: u16, queues: u16) -> bool
     ensures { result ≡ any_reason device.now.state.work engine queues }
 {
     for queue in 0..queues {

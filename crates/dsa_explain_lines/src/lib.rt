@@ -24,7 +24,7 @@ mod writes;
 
 pub use checks::add_check_reason;
 pub use commands::{add_issue_reason, add_poll_reason, add_wait_count};
-pub use dispatch::{add_engine_reason, add_queue_reason};
+pub use dispatch::{add_engine_reason, add_queue_reason, any_reason, front_name};
 pub use ended::add_unended;
 pub use ends::add_done_reason;
 pub use engines::{add_fetch_reason, add_finish_reason, add_start_reason};

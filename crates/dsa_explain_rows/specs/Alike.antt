@@ -56,12 +56,8 @@ second_write = step_of_a_group_write 1 (of_these 32 0) Written
 
 -- a device of this capacity after these steps
 abbrev pub device_after : ℕ → List Step → Running
-device_after capacity steps = record {
-  caps = many_queues;
-  room = capacity;
-  capacity = capacity;
+device_after capacity steps = record (running_at_first many_queues capacity) {
   history = steps;
-  anew = false;
   state = unwrap_or (replay many_queues steps) (opening many_queues);
 }
 

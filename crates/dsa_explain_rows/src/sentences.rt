@@ -1,11 +1,8 @@
 //! The sentence of each reason.
 
 ghost use Rattle.std.specs.Prelude.{◌≡◌, [], ◌∷◌, Some, None, true, false, codes, map};
-ghost use Rattle.dsa_regs.specs.declared.Command.TheVariants.{DrainAll, DrainPasid};
-ghost use Rattle.dsa_regs.specs.declared.Phase.TheVariants.{Off, On, Stopping};
-ghost use Rattle.dsa_regs.specs.declared.layout.ListUse.TheVariants.{Members, Progress, Queue};
-ghost use Rattle.dsa_book.specs.declared.event.Portal.TheVariants.{Limited, Unlimited};
-ghost use Rattle.dsa_book.specs.declared.fate.Fate.TheVariants.{Abandoned, Aborted, Completed};
+ghost use Rattle.dsa_regs.specs.{declared.Command.TheVariants.{DrainAll, DrainPasid}, declared.Phase.TheVariants.{Off, On, Stopping}, declared.layout.ListUse.TheVariants.{Members, Progress, Queue}};
+ghost use Rattle.dsa_book.specs.{declared.event.Portal.TheVariants.{Limited, Unlimited}, declared.fate.Fate.TheVariants.{Abandoned, Aborted, Completed}};
 ghost use Rattle.dsa_queues.specs.declared.reasons.SubmitReason.TheVariants as submit;
 ghost use Rattle.dsa_admin.specs.declared.reasons.IssueReason.TheVariants as issue;
 ghost use Rattle.dsa_admin.specs.declared.reasons.PollReason.TheVariants as poll;

@@ -13,7 +13,7 @@ mod rendering;
 pub mod rows;
 mod steps;
 
-pub use names::{OwnName, note_name, own_text};
+pub use names::{OwnName, name_given, note_name, own_text};
 pub use notes::add_note;
 pub use rendering::WithNames;
 pub use steps::{NamedPage, NamedRun, RenderNamed};

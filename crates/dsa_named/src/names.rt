@@ -39,8 +39,8 @@ pub fn own_text(step: &Value) -> Option<&str>
     if is_own_text(text) { Some(text) } else { None }
 }
 
-// The name that a step gave.
-fn name_given(entry: &Record) -> Option<u32>
+/// The name that a step gave.
+pub fn name_given(entry: &Record) -> Option<u32>
     ensures { result ≡ option_map (λ ticket. ticket.name) (ticket_given_by entry.now) }
 {
     let Record::Stepped(step) = entry else {

@@ -13,5 +13,5 @@ mod rendering;
 pub mod rows;
 
 pub use awaited::names_told;
-pub use lines::{add_named_line, names_in};
+pub use lines::{add_named_line, names_about, names_in};
 pub use rendering::NamedLines;

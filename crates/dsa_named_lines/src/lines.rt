@@ -26,9 +26,9 @@ fn is_among(name: u32, names: &[u32]) -> bool
     names.iter().any(|other| *other == name)
 }
 
-// The own names of the entries that a step with this record, after which these are the fates, is
-// about, and of those of these names.
-fn names_about<'a>(
+/// The own names of the entries that a step with this record, after which these are the fates, is
+/// about, and of those of these names.
+pub fn names_about<'a>(
     alloc: Global,
     names: &[OwnName<'a>],
     entry: &Record,

@@ -1,13 +1,13 @@
 //! Worked lines of traces with own names, by computation.
 
-ghost use Rattle.std.specs.Prelude.{◌≡◌, [], ◌∷◌, codes, map};
+ghost use Rattle.std.specs.Prelude.{◌≡◌, [], ◌∷◌, codes, false, map, true};
 ghost use Rattle.dsa_book.specs.declared.answer.FinishAnswer.TheVariants.{Gone};
 ghost use Rattle.dsa_scenario.specs.Worked.{accepted, record_ticket};
 ghost use Rattle.dsa_chosen.specs.Worked.{aborted_so_many, finished_with};
 ghost use Rattle.dsa_named.specs.Worked.{entry_taken, retry_answered};
 ghost use Rattle.dsa_named_lines.specs.Worked.{three_names};
 ghost use Rattle.dsa_trace.specs.declared.form.Trace.TheVariants.{Changes, Json, Table, Wide};
-ghost use Rattle.dsa_named_trace.specs.{Lines.{noted_line, own_members}, Shown.{shown_names}};
+ghost use Rattle.dsa_named_trace.specs.{Lines.{noted_line, own_members}, Shown.{is_traced, shown_names}};
 ghost use Rattle.dsa_named_trace.specs.Worked.{device_of_a_drain, device_of_three};
 
 /// Of which entries a line shows the own names.
@@ -15,6 +15,10 @@ pub fn of_entries()
     ensures listed { map (λ form. shown_names form three_names retry_answered device_of_a_drain)
         (Table ∷ Wide ∷ Json ∷ Changes ∷ [])
         ≡ three_names ∷ three_names ∷ three_names ∷ [] ∷ [] }
+    ensures traced { map
+        (λ name. is_traced name retry_answered device_of_three.state (3 ∷ 6 ∷ []))
+        (3 ∷ 4 ∷ 6 ∷ 7 ∷ [])
+        ≡ true ∷ false ∷ true ∷ false ∷ [] }
     ensures about { map (λ entry. shown_names Changes three_names entry device_of_a_drain)
         (accepted (record_ticket 5 7) ∷ entry_taken 4 ∷ entry_taken 6 ∷ [])
         ≡ ((7, codes "c") ∷ []) ∷ ((4, codes "a") ∷ []) ∷ [] ∷ [] }

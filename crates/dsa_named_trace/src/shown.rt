@@ -1,18 +1,14 @@
 //! The own names that a line shows.
 
-ghost use Rattle.std.specs.Prelude.{◌≡◌, ◌++◌, ◌==◌, ◌||◌, ◌<◌, IfOk, OnOk, filter, map};
-ghost use Rattle.std.specs.List.{list_any};
+ghost use Rattle.std.specs.Prelude.{◌≡◌, ◌++◌, ◌<◌, IfOk, OnOk, map};
 ghost use Rattle.dsa_regs.specs.Caps.{list_count};
-ghost use Rattle.dsa_chosen.specs.Selected.{is_about};
 ghost use Rattle.dsa_named.specs.Names.{own_of};
-ghost use Rattle.dsa_named_trace.specs.Shown.{held_names, listed_names};
-ghost use Rattle.dsa_named_trace.specs.Shown.{names_in_list, shown_names};
+ghost use Rattle.dsa_named_trace.specs.Shown.{held_names, listed_names, names_in_list, shown_names};
 
-use dsa_book::FateRow;
-use dsa_chosen::is_about;
 use dsa_device::Device;
 use dsa_explain::entries_of_list;
 use dsa_named::OwnName;
+use dsa_named_lines::names_about;
 use dsa_regs::list_count;
 use dsa_scenario::{Added, Record};
 use dsa_store::EntryStore;
@@ -58,35 +54,6 @@ fn listed_names<S: EntryStore>(
     }
 }
 
-// Whether the name is one of these.
-fn is_among(name: u32, names: &[u32]) -> bool
-    ensures { result ≡ list_any (λ other. other == name) names.now }
-{
-    names.iter().any(|other| *other == name)
-}
-
-// Those of the own names that a line with this record, after which these are the fates, and with
-// these names listed shows.
-fn names_among<'a>(
-    alloc: Global,
-    names: &[OwnName<'a>],
-    entry: &Record,
-    fates: &[FateRow],
-    listed: &[u32],
-) -> Result<Vec<OwnName<'a>>, AllocError>
-    ensures { IfOk result (λ found. map own_of found.items
-        ≡ filter (λ own. is_about own.0 entry.now fates.now
-        || list_any (λ other. other == own.0) listed.now) (map own_of names.now)) }
-{
-    let mut found = Vec::new(alloc);
-    for own in names {
-        if is_about(own.name, entry, fates) || is_among(own.name, listed) {
-            found.push(*own)?;
-        }
-    }
-    Ok(found)
-}
-
 /// The own names that the line of a step with this record, after which the device stands so, shows
 /// in this form: those of the entries that it lists and of those that the step is about.
 pub fn shown_names<'a, S: EntryStore>(
@@ -103,5 +70,5 @@ pub fn shown_names<'a, S: EntryStore>(
         return Ok(Vec::new(alloc));
     }
     let listed = listed_names(alloc, form, device)?;
-    names_among(alloc, names, entry, device.fates(), &listed)
+    names_about(alloc, names, entry, device.fates(), &listed)
 }

@@ -3,8 +3,11 @@ pub mod GivenBytes
 pub mod Heads
 pub mod Hex
 pub mod Names
+pub mod Numbers
+pub mod Places
 pub mod Plain
 pub mod Records
+pub mod ShortSteps
 pub mod StepObjects
 pub mod Streams
 pub mod StreamWrites

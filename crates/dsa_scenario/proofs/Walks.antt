@@ -1,5 +1,5 @@
 -- One step more of a walk, and its end.
-use Rattle.std.proofs.Common.{◌≡◌, ℕ, List, [], ◌∷◌, ◌++◌, Result, false, refl, ap, ◌∙◌, sym, ◌+◌, length, map, arith, subst}
+use Rattle.std.proofs.Common.{◌≡◌, ℕ, List, [], ◌∷◌, ◌++◌, Result, false, refl, ap, ◌∙◌, sym, ◌+◌, length, arith, subst}
 use Rattle.std.proofs.Common.{append_assoc, append-nil, filter_map, length-append}
 use Rattle.std.specs.Prelude.{slice_get, suc}
 use Rattle.dsa_regs.specs.declared.Caps.{Caps}

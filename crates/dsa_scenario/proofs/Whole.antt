@@ -4,7 +4,9 @@ use Rattle.serde_json.specs.{Data.{Data}, View.{view, items_of, items_view}, dec
 use Rattle.dsa_regs.specs.declared.Caps.{Caps}
 use Rattle.dsa_scenario.specs.declared.faults.ScenarioFault.{ScenarioFault, TheVariants.{BadStep, OutOfMemory}}
 use Rattle.dsa_scenario.specs.declared.faults.ScenarioFault.TheVariants.{BadCaps, BadCapacity}
+use Rattle.dsa_scenario.specs.declared.actions.Action.{Action}
 use Rattle.dsa_scenario.specs.Document.{list_of_items, head_of, IsJson, HasHead, IsFaultOfHead, IsFirstBad, IsFaultOf}
+use Rattle.dsa_scenario.specs.Document.{IsDocument, IsOpeningFault}
 
 -- the items of a list are the list
 list_of-items_of : (ds : List Data) → list_of_items (items_of ds) ≡ ds
@@ -42,3 +44,14 @@ pub first_bad : (bytes : List ℕ) (caps : Caps) (capacity : ℕ) (steps : List 
 first_bad bytes caps capacity steps e head (inl h) = inl h
 first_bad bytes caps capacity steps (BadStep i) head (inr h) = faulty_head bytes caps capacity steps _ head (inr h)
 first_bad bytes caps capacity steps _ head (inr h) = absurd h
+
+-- a fault of the device comes after those of the step objects
+pub cannot_open : (bytes : List ℕ) (caps : Caps) (capacity : ℕ) (actions : List Action) (e : ScenarioFault)
+    → IsDocument bytes caps capacity actions → (e ≡ OutOfMemory) ⊎ IsOpeningFault caps capacity e
+    → (e ≡ OutOfMemory) ⊎ IsFaultOf bytes e
+cannot_open bytes caps capacity actions e h (inl memory) = inl memory
+cannot_open bytes caps capacity actions BadCaps h (inr fault) =
+    faulty_head bytes caps capacity h.steps BadCaps h.head (inr ((actions, h.asked), fault))
+cannot_open bytes caps capacity actions BadCapacity h (inr fault) =
+    faulty_head bytes caps capacity h.steps BadCapacity h.head (inr ((actions, h.asked), fault))
+cannot_open bytes caps capacity actions _ h (inr fault) = absurd fault

@@ -5,9 +5,8 @@ ghost use Rattle.serde_json.specs.View.{view};
 ghost use Rattle.dsa_scenario.specs.Fields.{row_of_field};
 ghost use Rattle.dsa_scenario.specs.Actions.{caps_of, portal_of_limited, outcome_of_fault, action_of_word, kind_text, rows_of_kind, kind_named, kind_of, action_by, action_of};
 
-use crate::fields::{
-    Field, Form, digits_field, truth_field, u8_field, u16_field, u32_field, u64_field,
-};
+use crate::fields::{Field, Form, digits_at, truth_at, u8_at, u16_at, u32_at, u64_at};
+use crate::objects::Object;
 use crate::table_of;
 use dsa_book::{Event, Kind, Portal};
 use dsa_desc::{Descriptor, Outcome};
@@ -156,12 +155,19 @@ impl StepKind {
     }
 }
 
+#[inline(always)]
+fn kind_at<O: Object>(step: &O) -> Option<StepKind>
+    ensures { result ≡ kind_of (O.stands_for step.now) }
+{
+    StepKind::parse(step.get("do")?.as_str()?)
+}
+
 /// The kind of a step object, by its text `do`.
 #[inline(always)]
 pub fn kind_of(step: &Value) -> Option<StepKind>
     ensures { result ≡ kind_of (view step.now) }
 {
-    StepKind::parse(step.get("do")?.as_str()?)
+    kind_at(&step)
 }
 
 /// What one step object asks (profile).
@@ -188,19 +194,26 @@ pub struct BadWord {
 }
 
 /// The object `caps`.
+pub fn caps_at<O: Object>(object: &O) -> Option<Caps>
+    ensures { result ≡ caps_of (O.stands_for object.now) }
+{
+    Some(Caps {
+        queues: u16_at(object, "queues")?,
+        groups: u16_at(object, "groups")?,
+        engines: u16_at(object, "engines")?,
+        total_size: u16_at(object, "total_size")?,
+        read_buffers: u16_at(object, "read_buffers")?,
+        slots: u16_at(object, "slots")?,
+        max_batch_shift: u8_at(object, "max_batch_shift")?,
+        max_xfer_shift: u8_at(object, "max_xfer_shift")?,
+    })
+}
+
+/// The object `caps`, of a value.
 pub fn parse_caps(object: &Value) -> Option<Caps>
     ensures { result ≡ caps_of (view object.now) }
 {
-    Some(Caps {
-        queues: u16_field(object, "queues")?,
-        groups: u16_field(object, "groups")?,
-        engines: u16_field(object, "engines")?,
-        total_size: u16_field(object, "total_size")?,
-        read_buffers: u16_field(object, "read_buffers")?,
-        slots: u16_field(object, "slots")?,
-        max_batch_shift: u8_field(object, "max_batch_shift")?,
-        max_xfer_shift: u8_field(object, "max_xfer_shift")?,
-    })
+    caps_at(&object)
 }
 
 #[inline(always)]
@@ -225,43 +238,46 @@ fn outcome_of(fault: bool) -> Outcome
     }
 }
 
-fn parse_queue(object: &Value) -> Option<Action>
-    ensures { result ≡ action_by StepKind.Queue (view object.now) }
+#[inline(never)]
+fn parse_queue<O: Object>(object: &O) -> Option<Action>
+    ensures { result ≡ action_by StepKind.Queue (O.stands_for object.now) }
 {
-    let queue = u16_field(object, "queue")?;
+    let queue = u16_at(object, "queue")?;
     let config = QueueConfig {
-        size: u16_field(object, "size")?,
-        threshold: u16_field(object, "threshold")?,
-        dedicated: truth_field(object, "dedicated")?,
-        priority: u8_field(object, "priority")?,
-        pasid: u32_field(object, "pasid")?,
-        max_batch_shift: u8_field(object, "batch")?,
-        max_xfer_shift: u8_field(object, "xfer")?,
+        size: u16_at(object, "size")?,
+        threshold: u16_at(object, "threshold")?,
+        dedicated: truth_at(object, "dedicated")?,
+        priority: u8_at(object, "priority")?,
+        pasid: u32_at(object, "pasid")?,
+        max_batch_shift: u8_at(object, "batch")?,
+        max_xfer_shift: u8_at(object, "xfer")?,
     };
     Some(Action::Ask(Event::WriteQueue { queue, config }))
 }
 
-fn parse_group(object: &Value) -> Option<Action>
-    ensures { result ≡ action_by StepKind.Group (view object.now) }
+#[inline(never)]
+fn parse_group<O: Object>(object: &O) -> Option<Action>
+    ensures { result ≡ action_by StepKind.Group (O.stands_for object.now) }
 {
-    let group = u16_field(object, "group")?;
+    let group = u16_at(object, "group")?;
     let config = GroupConfig {
-        queues: u64_field(object, "queues")?,
-        engines: u64_field(object, "engines")?,
-        reserved: u16_field(object, "reserved")?,
-        allowed: u16_field(object, "allowed")?,
+        queues: u64_at(object, "queues")?,
+        engines: u64_at(object, "engines")?,
+        reserved: u16_at(object, "reserved")?,
+        allowed: u16_at(object, "allowed")?,
     };
     Some(Action::Ask(Event::WriteGroup { group, config }))
 }
 
-fn parse_enqcmd(object: &Value) -> Option<Action>
-    ensures { result ≡ action_by StepKind.Enqcmd (view object.now) }
+#[inline(never)]
+fn parse_enqcmd<O: Object>(object: &O) -> Option<Action>
+    ensures { result ≡ action_by StepKind.Enqcmd (O.stands_for object.now) }
 {
-    let client = u16_field(object, "client")?;
-    let queue = u16_field(object, "queue")?;
-    let limited = truth_field(object, "limited")?;
-    let pasid = u32_field(object, "pasid")?;
-    let desc = digits_field(object, "desc")?;
+    let client = u16_at(object, "client")?;
+    let queue = u16_at(object, "queue")?;
+    let limited = truth_at(object, "limited")?;
+    let pasid = u32_at(object, "pasid")?;
+    let desc = digits_at(object, "desc")?;
     Some(Action::Ask(Event::Submit {
         client,
         queue,
@@ -271,13 +287,14 @@ fn parse_enqcmd(object: &Value) -> Option<Action>
     }))
 }
 
-fn parse_movdir(object: &Value) -> Option<Action>
-    ensures { result ≡ action_by StepKind.Movdir (view object.now) }
+#[inline(never)]
+fn parse_movdir<O: Object>(object: &O) -> Option<Action>
+    ensures { result ≡ action_by StepKind.Movdir (O.stands_for object.now) }
 {
-    let client = u16_field(object, "client")?;
-    let queue = u16_field(object, "queue")?;
-    let limited = truth_field(object, "limited")?;
-    let desc = digits_field(object, "desc")?;
+    let client = u16_at(object, "client")?;
+    let queue = u16_at(object, "queue")?;
+    let limited = truth_at(object, "limited")?;
+    let desc = digits_at(object, "desc")?;
     Some(Action::Ask(Event::Submit {
         client,
         queue,
@@ -288,19 +305,19 @@ fn parse_movdir(object: &Value) -> Option<Action>
 }
 
 #[inline(always)]
-fn parse_dispatch(object: &Value) -> Option<Action>
-    ensures { result ≡ action_by StepKind.Dispatch (view object.now) }
+fn parse_dispatch<O: Object>(object: &O) -> Option<Action>
+    ensures { result ≡ action_by StepKind.Dispatch (O.stands_for object.now) }
 {
-    let engine = u16_field(object, "engine")?;
+    let engine = u16_at(object, "engine")?;
     Some(Action::Ask(Event::Dispatch { engine }))
 }
 
-#[inline(always)]
-fn parse_fetch(object: &Value) -> Option<Action>
-    ensures { result ≡ action_by StepKind.Fetch (view object.now) }
+#[inline(never)]
+fn parse_fetch<O: Object>(object: &O) -> Option<Action>
+    ensures { result ≡ action_by StepKind.Fetch (O.stands_for object.now) }
 {
-    let engine = u16_field(object, "engine")?;
-    let desc = digits_field(object, "desc")?;
+    let engine = u16_at(object, "engine")?;
+    let desc = digits_at(object, "desc")?;
     Some(Action::Ask(Event::Fetch {
         engine,
         desc: Descriptor::parse(&desc),
@@ -308,20 +325,20 @@ fn parse_fetch(object: &Value) -> Option<Action>
 }
 
 #[inline(always)]
-fn parse_start(object: &Value) -> Option<Action>
-    ensures { result ≡ action_by StepKind.Start (view object.now) }
+fn parse_start<O: Object>(object: &O) -> Option<Action>
+    ensures { result ≡ action_by StepKind.Start (O.stands_for object.now) }
 {
-    let engine = u16_field(object, "engine")?;
+    let engine = u16_at(object, "engine")?;
     Some(Action::Ask(Event::Start { engine }))
 }
 
-#[inline(always)]
-fn parse_finish(object: &Value) -> Option<Action>
-    ensures { result ≡ action_by StepKind.Finish (view object.now) }
+#[inline(never)]
+fn parse_finish<O: Object>(object: &O) -> Option<Action>
+    ensures { result ≡ action_by StepKind.Finish (O.stands_for object.now) }
 {
-    let engine = u16_field(object, "engine")?;
-    let name = u32_field(object, "name")?;
-    let fault = truth_field(object, "fault")?;
+    let engine = u16_at(object, "engine")?;
+    let name = u32_at(object, "name")?;
+    let fault = truth_at(object, "fault")?;
     Some(Action::Finish {
         engine,
         name,
@@ -329,8 +346,9 @@ fn parse_finish(object: &Value) -> Option<Action>
     })
 }
 
+/// What a word of the command register asks.
 #[inline(always)]
-fn action_of_word(word: u32) -> Action
+pub fn action_of_word(word: u32) -> Action
     ensures { result ≡ action_of_word word }
 {
     match CommandWord::parse(word) {
@@ -340,16 +358,16 @@ fn action_of_word(word: u32) -> Action
 }
 
 #[inline(always)]
-fn parse_command(object: &Value) -> Option<Action>
-    ensures { result ≡ action_by StepKind.Command (view object.now) }
+fn parse_command<O: Object>(object: &O) -> Option<Action>
+    ensures { result ≡ action_by StepKind.Command (O.stands_for object.now) }
 {
-    let word = u32_field(object, "word")?;
+    let word = u32_at(object, "word")?;
     Some(action_of_word(word))
 }
 
 #[inline(always)]
-fn parse_by_kind(kind: StepKind, object: &Value) -> Option<Action>
-    ensures { result ≡ action_by kind (view object.now) }
+fn parse_by_kind<O: Object>(kind: StepKind, object: &O) -> Option<Action>
+    ensures { result ≡ action_by kind (O.stands_for object.now) }
 {
     match kind {
         StepKind::Queue => parse_queue(object),
@@ -369,8 +387,16 @@ fn parse_by_kind(kind: StepKind, object: &Value) -> Option<Action>
 /// What a step object asks, by its text `do` and the fields of that kind of step; other fields are
 /// ignored. `None` says that it is no step object.
 #[inline(always)]
+pub fn action_at<O: Object>(object: &O) -> Option<Action>
+    ensures { result ≡ action_of (O.stands_for object.now) }
+{
+    parse_by_kind(kind_at(object)?, object)
+}
+
+/// What a step object asks, of a value.
+#[inline(always)]
 pub fn parse_action(object: &Value) -> Option<Action>
     ensures { result ≡ action_of (view object.now) }
 {
-    parse_by_kind(kind_of(object)?, object)
+    action_at(&object)
 }

@@ -73,8 +73,8 @@ fn first_bad(steps: &[Value]) -> Option<usize>
     None
 }
 
-// What keeps a device from being made as the head says.
-fn opening_fault(caps: &Caps, capacity: u64) -> Option<ScenarioFault>
+/// What keeps a device from being made of these caps and this capacity.
+pub fn opening_fault(caps: &Caps, capacity: u64) -> Option<ScenarioFault>
     ensures none { IfNone result (IsOpenable caps.now capacity) }
     ensures some { IfSome result (IsOpeningFault caps.now capacity) }
 {

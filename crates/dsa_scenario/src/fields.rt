@@ -5,6 +5,7 @@ ghost use Rattle.serde_json.specs.View.{view};
 ghost use Rattle.hex.specs.Hex.{decode_pairs};
 ghost use Rattle.dsa_scenario.specs.Fields.{whole_of, truth_of, digits_of, hex_bytes_of};
 
+use crate::objects::Object;
 use serde_json::Value;
 
 /// What may stand at a key.
@@ -38,50 +39,58 @@ macro_rules! table_of {
 
 /// The number at the key, where it is whole and without sign.
 #[inline(always)]
-pub fn u64_field(object: &Value, key: &str) -> Option<u64>
-    ensures { result ≡ whole_of (2 ^ 64) key.now (view object.now) }
+pub fn u64_at<O: Object>(object: &O, key: &str) -> Option<u64>
+    ensures { result ≡ whole_of (2 ^ 64) key.now (O.stands_for object.now) }
 {
-    object.get(key).and_then(Value::as_u64)
+    object.get(key)?.as_u64()
 }
 
 /// Such a number of 32 bits.
 #[inline(always)]
-pub fn u32_field(object: &Value, key: &str) -> Option<u32>
-    ensures { result ≡ whole_of (2 ^ 32) key.now (view object.now) }
+pub fn u32_at<O: Object>(object: &O, key: &str) -> Option<u32>
+    ensures { result ≡ whole_of (2 ^ 32) key.now (O.stands_for object.now) }
 {
-    u32::try_from(u64_field(object, key)?).ok()
+    u32::try_from(u64_at(object, key)?).ok()
 }
 
 /// Such a number of 16 bits.
 #[inline(always)]
-pub fn u16_field(object: &Value, key: &str) -> Option<u16>
-    ensures { result ≡ whole_of (2 ^ 16) key.now (view object.now) }
+pub fn u16_at<O: Object>(object: &O, key: &str) -> Option<u16>
+    ensures { result ≡ whole_of (2 ^ 16) key.now (O.stands_for object.now) }
 {
-    u16::try_from(u64_field(object, key)?).ok()
+    u16::try_from(u64_at(object, key)?).ok()
 }
 
 /// Such a number of 8 bits.
 #[inline(always)]
-pub fn u8_field(object: &Value, key: &str) -> Option<u8>
-    ensures { result ≡ whole_of (2 ^ 8) key.now (view object.now) }
+pub fn u8_at<O: Object>(object: &O, key: &str) -> Option<u8>
+    ensures { result ≡ whole_of (2 ^ 8) key.now (O.stands_for object.now) }
 {
-    u8::try_from(u64_field(object, key)?).ok()
+    u8::try_from(u64_at(object, key)?).ok()
 }
 
 /// The truth value at the key.
 #[inline(always)]
-pub fn truth_field(object: &Value, key: &str) -> Option<bool>
-    ensures { result ≡ truth_of key.now (view object.now) }
+pub fn truth_at<O: Object>(object: &O, key: &str) -> Option<bool>
+    ensures { result ≡ truth_of key.now (O.stands_for object.now) }
 {
     object.get(key)?.as_bool()
 }
 
 /// The bytes that the text at the key says.
 #[inline(always)]
-pub fn digits_field(object: &Value, key: &str) -> Option<[u8; 64]>
-    ensures { result ≡ digits_of key.now (view object.now) }
+pub fn digits_at<O: Object>(object: &O, key: &str) -> Option<[u8; 64]>
+    ensures { result ≡ digits_of key.now (O.stands_for object.now) }
 {
     bytes_of_hex(object.get(key)?.as_str()?)
+}
+
+/// The number at the key of this value, where it is whole and without sign.
+#[inline(always)]
+pub fn u64_field(object: &Value, key: &str) -> Option<u64>
+    ensures { result ≡ whole_of (2 ^ 64) key.now (view object.now) }
+{
+    u64_at(&object, key)
 }
 
 // Writes the bytes of a text of hexadecimal digits over the first of `bytes`, and says whether it

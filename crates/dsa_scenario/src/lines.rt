@@ -82,6 +82,7 @@ fn add_submit(text: &mut String, answer: SubmitAnswer) -> Result<(), AllocError>
     }
 }
 
+#[inline(always)]
 fn add_dispatch(text: &mut String, answer: DispatchAnswer) -> Result<(), AllocError>
     ensures { OnOk result (string_bytes text.new ≡ string_bytes text.old ++ dispatch_text answer) }
 {

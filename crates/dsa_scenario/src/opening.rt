@@ -3,15 +3,16 @@
 ghost use Rattle.std.specs.Prelude.{◌≡◌, ◌⊎◌, [], map, replicate, IfOk, IfErr, OnOk};
 ghost use Rattle.serde_json.specs.View.{view};
 ghost use Rattle.dsa_scenario.specs.declared.faults.ScenarioFault.{ScenarioFault};
-ghost use Rattle.dsa_scenario.specs.Document.{IsFaultOfHead, IsOpenable};
+ghost use Rattle.dsa_scenario.specs.Document.{IsFaultOfHead, IsOpenable, IsOpeningFault};
 ghost use Rattle.dsa_scenario.specs.Steps.{IsAtFirst};
 
-use crate::document::{Head, check_head};
+use crate::document::{Head, check_head, opening_fault};
 use crate::faults::ScenarioFault;
+use crate::script::Script;
 use dsa_book::Ticket;
 use dsa_cells::LinkedStore;
 use dsa_device::Device;
-use dsa_regs::{cell_count, list_count};
+use dsa_regs::{Caps, cell_count, list_count};
 use dsa_store::{EntryStore, PlainStore};
 use std::alloc::{AllocError, Global};
 
@@ -52,9 +53,38 @@ pub fn open_run<S: MakeStore>(alloc: Global, head: &Head<'_>) -> Result<Run<S>, 
         ⊎ IsFaultOfHead head.now.caps head.now.capacity (map view head.now.steps.now) e) }
 {
     check_head(head)?;
-    let lists = list_count(&head.caps);
-    let store = S::make(alloc, lists, cell_count(&head.caps))?;
-    let Ok(device) = Device::new(alloc, store, head.caps, head.capacity) else {
+    make_run(alloc, &head.caps, head.capacity)
+}
+
+/// A run of a script at its beginning, on a new device.
+pub fn open_script<S: MakeStore>(alloc: Global, script: &Script) -> Result<Run<S>, ScenarioFault>
+    ensures opening { OnOk result (IsOpenable script.now.caps script.now.capacity) }
+    ensures first { IfOk result
+        (λ run. IsAtFirst script.now.caps script.now.capacity run.device run.tickets.items) }
+    ensures fault { IfErr result
+        (λ e. (e ≡ ScenarioFault.OutOfMemory)
+        ⊎ IsOpeningFault script.now.caps script.now.capacity e) }
+{
+    if let Some(fault) = opening_fault(&script.caps, script.capacity) {
+        return Err(fault);
+    }
+    make_run(alloc, &script.caps, script.capacity)
+}
+
+// A new device of these caps and this capacity, which gave no ticket.
+fn make_run<S: MakeStore>(
+    alloc: Global,
+    caps: &Caps,
+    capacity: u64,
+) -> Result<Run<S>, ScenarioFault>
+    requires { IsOpenable caps.now capacity }
+    ensures first { IfOk result
+        (λ run. IsAtFirst caps.now capacity run.device run.tickets.items) }
+    ensures fault { IfErr result (λ e. e ≡ ScenarioFault.OutOfMemory) }
+{
+    let lists = list_count(caps);
+    let store = S::make(alloc, lists, cell_count(caps))?;
+    let Ok(device) = Device::new(alloc, store, *caps, capacity) else {
         return Err(ScenarioFault::OutOfMemory);
     };
     device.state_is_replay();

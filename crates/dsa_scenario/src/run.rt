@@ -1,10 +1,12 @@
 //! What a document's actions come to on a device.
 
 ghost use Rattle.std.specs.Prelude.{◌≡◌, ◌++◌, [], ◌∷◌, OnOk, slice_get, filter_map};
+ghost use Rattle.dsa_book.specs.declared.event.Event.{Event};
 ghost use Rattle.dsa_scenario.specs.Run.{ticket_given_by, ticket_of_name, event_of, answered_by, IsTable, Leads};
 
 use crate::actions::{Action, BadWord};
 use dsa_book::{Event, FetchAnswer, Reply, Step, SubmitAnswer, Ticket};
+use dsa_desc::Outcome;
 use dsa_device::Device;
 use dsa_store::{Cell, EntryStore};
 use std::alloc::AllocError;
@@ -59,6 +61,20 @@ pub fn note_ticket(tickets: &mut Vec<Ticket>, entry: &Record) -> Result<(), Allo
     Ok(())
 }
 
+// The end of the entry with this name. A call of its own keeps the other events in one piece.
+#[inline(never)]
+fn finish_of(tickets: &[Ticket], engine: u16, name: u32, outcome: Outcome) -> Event
+    ensures { (before : _)
+        → IsTable (slice_get tickets.now) before
+        → result ≡ Event.Finish engine (ticket_of_name before name) outcome }
+{
+    Event::Finish {
+        engine,
+        ticket: ticket_for(tickets, name),
+        outcome,
+    }
+}
+
 /// The event that the action asks for, or the refusal of its word. The tickets stand at the places
 /// of their names.
 #[inline(always)]
@@ -73,11 +89,7 @@ pub fn event_for(tickets: &[Ticket], action: Action) -> Result<Event, BadWord>
             engine,
             name,
             outcome,
-        } => Ok(Event::Finish {
-            engine,
-            ticket: ticket_for(tickets, name),
-            outcome,
-        }),
+        } => Ok(finish_of(tickets, engine, name, outcome)),
         Action::Refuse(word) => Err(word),
     }
 }

@@ -12,11 +12,11 @@ ghost use Rattle.dsa_scenario.specs.Steps.{Visit, visit, IsWalkTo, IsTextOfDocum
 ghost use Rattle.dsa_scenario.specs.Streams.{IsPageBehind, IsPageOfRest, BeginWith, HasWalked};
 
 use crate::actions::{Action, BadWord, parse_action};
-use crate::document::{parse_head, parse_json};
 use crate::faults::ScenarioFault;
-use crate::opening::{MakeStore, Run, open_run};
+use crate::opening::{MakeStore, Run, open_script};
 use crate::rendering::{Rendered, Rendering};
 use crate::run::{Record, ask, event_for, note_ticket};
+use crate::script::read_script;
 use crate::sinks::{Kept, Sink};
 use dsa_book::Event;
 use dsa_cells::LinkedStore;
@@ -192,6 +192,28 @@ impl<S: EntryStore> Run<S> {
     {
         self.walk_into(alloc, what, page, &mut Kept, steps)
     }
+
+    /// Runs the actions, and adds their steps to the page.
+    fn make_all<D: RenderSteps>(
+        &mut self,
+        alloc: Global,
+        what: &D,
+        page: &mut D::Page,
+        actions: &[Action],
+    ) -> Added
+        ensures { OnOk result
+            ((caps : Caps)
+            → (capacity : ℕ)
+            → IsWalkTo (D.is_page what.now) caps capacity [] 0 self.old.device
+            self.old.tickets.items page.old
+            → IsWalkTo (D.is_page what.now) caps capacity actions.now (length actions.now)
+            self.new.device self.new.tickets.items page.new) }
+    {
+        for (i, action) in actions.iter().enumerate() {
+            self.step(alloc, what, page, i, *action)?;
+        }
+        Ok(())
+    }
 }
 
 /// What `what` makes of a run of the document in these bytes, on a device over such a store.
@@ -201,18 +223,15 @@ pub fn render_over<S: MakeStore, D: RenderSteps>(alloc: Global, what: &D, bytes:
         × IsTextOfDocument (D.is_text what.now) bytes.now (string_bytes r.text)) }
     ensures err { IfErr result (λ e. (e ≡ ScenarioFault.OutOfMemory) ⊎ IsFaultOf bytes.now e) }
 {
-    let value = parse_json(alloc, bytes)?;
-    let Some(head) = parse_head(&value) else {
-        return Err(ScenarioFault::BadDocument);
-    };
-    let mut run: Run<S> = open_run(alloc, &head)?;
+    let script = read_script(alloc, bytes)?;
+    let mut run: Run<S> = open_script(alloc, &script)?;
     let mut page = what.open(alloc);
-    run.walk(alloc, what, &mut page, head.steps)?;
+    run.make_all(alloc, what, &mut page, &script.actions)?;
     let text = what.finish(alloc, page, &run.device)?;
     Ok(Rendering {
         text,
         fault: None,
-        document: Some(value),
+        document: None,
     })
 }
 

@@ -1,14 +1,15 @@
 //! Whole lines, and what a trace is of.
 
 ghost use Rattle.std.specs.Prelude.{◌≡◌, ◌++◌, [], ◌∷◌, codes, map};
+ghost use Rattle.std.specs.List.{range_with_len};
 ghost use Rattle.dsa_regs.specs.declared.Fault.TheVariants.{BadCommand};
 ghost use Rattle.dsa_device.specs.Running.{running_at_first};
 ghost use Rattle.dsa_scenario.specs.Worked.{no_command};
 ghost use Rattle.dsa_scenario.specs.declared.run.Record.TheVariants.{Refused};
 ghost use Rattle.dsa_scenario.specs.Worked.{poll_text, smallest_caps, stepless_text};
 ghost use Rattle.dsa_trace.specs.declared.form.Trace.TheVariants.{Table, Wide, Json, Changes};
-ghost use Rattle.dsa_trace.specs.Changes.{column_count, shown_line, shown_lines, snapshot};
-ghost use Rattle.dsa_trace.specs.Changes.{told_before_step};
+ghost use Rattle.dsa_trace.specs.Changes.{changed_lists, column_count, shown_line, shown_lines};
+ghost use Rattle.dsa_trace.specs.Changes.{snapshot, told_before_step};
 ghost use Rattle.dsa_trace.specs.Columns.{state_object};
 ghost use Rattle.dsa_trace.specs.Held.{held_lines};
 ghost use Rattle.dsa_trace.specs.Lines.{step_line, trace_line_of_step};
@@ -34,7 +35,8 @@ pub fn of_steps()
         ≡ codes "{\"step\":12,\"event\":\"dispatch e1\",\"answer\":\"taken 33 from 2\","
         ++ codes "\"result\":{\"kind\":\"taken\",\"name\":33,\"queue\":2},\"fates\":[],"
         ++ members_of_a_trace ++ codes "}\n" }
-    ensures word { step_line Table [] 9 (Refused no_command) (running_at_first smallest_caps 400)
+    ensures word { step_line Table [] 9 (Refused no_command)
+        (record (running_at_first smallest_caps 400) { room = 2_000 })
         ≡ codes "  9 | | | | command 0x0 -> refused 13 BadCommand\n" }
     ensures wide_word { step_line Wide [] 9 (Refused no_command) (running_at_first smallest_caps 4)
         ≡ codes "9 | q0 0/0/0 | e0 0/1 m0 | g0 0/0 | command 0x0 -> refused 13 BadCommand\n" }
@@ -137,6 +139,8 @@ pub fn of_lines()
     ensures after_the_end { shown_line (codes "a" ∷ codes "b" ∷ []) (codes "a" ∷ []) 1 ≡ [] }
     ensures from_first { shown_lines [] (map (λ n. n ∷ []) (5 ∷ 6 ∷ 7 ∷ 8 ∷ [])) 1 2 ≡ 6 ∷ 7 ∷ [] }
     ensures columns { column_count caps_of_a_trace ≡ 9 }
+    ensures lists { changed_lists [] (map (λ n. n ∷ []) (range_with_len 1 9)) smallest_caps
+        ≡ 4 ∷ 5 ∷ 6 ∷ 7 ∷ [] }
 {}
 
 /// The traces of a document of one step, which polls, and of one without a step.

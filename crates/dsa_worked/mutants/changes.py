@@ -34,13 +34,17 @@ class Types:
     """What the crates declare: records with their fields, and constructors with the types of their arguments."""
 
     def __init__(self, crates, top, modules):
-        self.records, self.families, self.records_of = {}, {}, {}
+        self.records, self.families, self.records_of, self.own = {}, {}, {}, {}
         for crate in crates:
-            source = f"{top}/crates/{crate}/src"
+            source, known = f"{top}/crates/{crate}/src", (self.records, self.families)
+            self.records, self.families = {}, {}
             for name in sorted(os.listdir(source)) if os.path.isdir(source) else []:
                 if name.endswith(".rt"):
                     with open(f"{source}/{name}", encoding="utf-8") as it:
                         self.declared(re.sub(r"^\s*(//|#\[).*$", "", it.read(), flags=re.M))
+            # Two crates may have types of one name.
+            self.own[crate] = self.records, self.families
+            self.records, self.families = {**known[0], **self.records}, {**known[1], **self.families}
         for module in modules:
             for it in module.definitions.values():
                 labels = [(label, module.text[start:end]) for label, _, start, end in it.fields]
@@ -51,8 +55,14 @@ class Types:
                 elif it.kind == "data":
                     self.families[it.name] = {label: tuple(kind.split(" → ")[:-1]) for label, kind in labels}
 
+    def family(self, path):
+        """The constructors of the type whose variants this path has, by its crate."""
+        parts = path.split(".")
+        name = parts[parts.index("TheVariants") - 1]
+        return self.own.get(parts[1], ({}, {}))[1].get(name) or self.families.get(name, {})
+
     def declared(self, text):
-        for name, body in re.findall(r"^(?:pub(?:\(crate\))? )?struct (\w+) \{\n(.*?)^\}", text, re.M | re.S):
+        for name, body in re.findall(r"^(?:pub(?:\(crate\))? )?struct (\w+)(?:<.*?>)? \{\n(.*?)^\}", text, re.M | re.S):
             self.records[name] = [(it, plain(kind)) for it, kind in re.findall(r"^    (?:pub )?(\w+): (.*?),?$", body, re.M)]
         for name, kind in re.findall(r"^(?:pub(?:\(crate\))? )?struct (\w+)\((?:pub )?(\w+)\);", text, re.M):
             self.records[name] = [("0", plain(kind))]
@@ -92,6 +102,8 @@ class Changes:
 
     def __init__(self, module, types, signatures):
         self.module, self.types, self.signatures, self.text = module, types, signatures, module.text
+        records, families = types.own.get(module.crate, ({}, {}))
+        self.records, self.families = {**types.records, **records}, {**types.families, **families}
 
     def of(self, node):
         return self.text[node.start:node.end]
@@ -175,7 +187,7 @@ class Changes:
     def of_this_kind(self, names, node):
         """Notes the type of what is said to be of one, where the type is known."""
         kind = shown(self.of(node))
-        if kind in self.types.records or kind in self.types.records_of:
+        if kind in self.records or kind in self.types.records_of:
             self.local = {**self.local, **{it: kind for it in names}}
 
     def learn(self, pattern, kind):
@@ -186,9 +198,10 @@ class Changes:
         elif pattern.kind == "operator" and parts[0] == "List":
             self.learn(pattern.parts[0], bare(parts[1]))
             self.learn(pattern.parts[1], kind)
-        elif pattern.kind == "apply" and pattern.parts[0].kind == "name":
+        elif pattern.kind == "apply" and pattern.parts[0].kind in ("name", "field"):
             name = pattern.parts[0].value
-            kinds = self.types.families.get(kind, {}).get(name, self.made(name)[1])
+            name, kinds = (name, self.made(name)[1]) if isinstance(name, str) else (name[0], ())
+            kinds = self.families.get(kind, {}).get(name, kinds)
             kinds = (bare(parts[1]),) if parts[0] == "Option" else kinds
             for it, its in zip(pattern.parts[1:], kinds):
                 self.learn(it, its)
@@ -203,7 +216,7 @@ class Changes:
             if record in self.types.records_of:
                 parts = parts_of(self.types.records_of[record])
                 return parts[int(node.value[0])] if node.value[0].isdigit() and int(node.value[0]) < len(parts) else None
-            return dict(self.types.records.get(record, [])).get(node.value[0])
+            return dict(self.records.get(record, [])).get(node.value[0])
         if node.kind == "apply" and node.parts[0].kind == "name":
             name, given = node.parts[0].value, node.parts[1:]
             if name in ("get_or", "slice_index_or") and len(given) == 3:
@@ -364,7 +377,7 @@ class Changes:
         for path in self.module.uses.get(name, []):
             parts = path.split(".")
             if "TheVariants" in parts[:-1]:
-                family = self.types.families.get(parts[parts.index("TheVariants") - 1], {})
+                family = self.types.family(path)
                 if name in family:
                     return path.rpartition(".")[0], family[name], family
             elif parts[-1] in ("true", "false"):
@@ -388,7 +401,7 @@ class Changes:
         paths = self.module.uses.get(self.of(node.parts[0]), [])
         if any(path.endswith("TheVariants") for path in paths):
             path = next(path for path in paths if path.endswith("TheVariants"))
-            family = self.types.families.get(path.split(".")[-2], {})
+            family = self.types.family(path)
             for other, kinds in family.items():
                 if other != name and kinds == family.get(name):
                     new = self.text[node.start:start] + other
@@ -396,8 +409,8 @@ class Changes:
             return
         others = {}
         record = self.kind_of(node.parts[0])
-        known = self.types.records.get(record)
-        for fields in [known] if known else self.types.records.values():
+        known = self.records.get(record)
+        for fields in [known] if known else self.records.values():
             kinds = dict(fields)
             if name in kinds and (known or record is None):
                 others.update({it: None for it, kind in fields if kind == kinds[name] and it != name})
@@ -418,7 +431,7 @@ class Changes:
                 found.append(Change("no field", f"{name} = {shown(self.of(value))}", "", [(start, last, "")]))
         elif base:
             found.append(self.replaced("no field", node, self.single(node.parts[0])))
-        for record, fields in self.types.records.items():
+        for record, fields in self.records.items():
             kinds = dict(fields)
             if all(it in kinds for it in names) and (base or len(kinds) == len(names)):
                 for i in range(len(names) - 1):
@@ -440,7 +453,8 @@ class Changes:
         for pattern, kind in zip(clause.patterns, self.signatures.get(definition.name, [])):
             self.learn(pattern, kind)
         found, self.local = self.local, kept
-        return {it: kind for it, kind in found.items() if kind in self.types.records or kind in self.types.families}
+        plain = {it: kind for it, kind in found.items() if " " not in kind or kind.startswith("&")}
+        return {it: kind for it, kind in plain.items() if not re.fullmatch("[A-Z]", kind)}
 
     def rows(self, definition, clause, following, found):
         """What two neighbouring clauses give, in each other's place, where each has the names that the other's needs."""
@@ -459,7 +473,8 @@ class Changes:
     def dropped(self, definition, i, found):
         """Without a clause, where the last one covers it."""
         last = definition.clauses[-1]
-        covers = all(it.kind == "name" and self.made(it.value)[0] is None and it.value != "[]" for it in last.patterns)
+        made = ("[]", "None", "zero", "tt")
+        covers = all(it.kind == "name" and self.made(it.value)[0] is None and it.value not in made for it in last.patterns)
         if i + 1 < len(definition.clauses) and last.patterns and covers:
             clause = definition.clauses[i]
             old = shown(self.text[clause.start:clause.end])

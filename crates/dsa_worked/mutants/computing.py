@@ -4,9 +4,10 @@ import functools
 import json
 import os
 import re
+import shutil
 import sys
 
-from definitions import Node, names_used, term_of
+from definitions import Module, Node, Unknown, names_used, term_of
 
 sys.setrecursionlimit(20000)
 
@@ -181,7 +182,32 @@ def then(x, f):
 
 def in_signs(z):
     """A number with its sign, in decimal digits."""
-    return in_digits(10, False, z.arguments[0]) if z.name == "pos" else [45] + in_digits(10, False, z.arguments[0] + 1)
+    return list(str(as_int(z)).encode())
+
+
+def as_int(z):
+    """A whole number with its sign."""
+    return z.arguments[0] if z.name == "pos" else -z.arguments[0] - 1
+
+
+def parts_between(test, xs):
+    """What stands between the elements that pass."""
+    found = [[]]
+    for x in xs:
+        if test(x):
+            found.append([])
+        else:
+            found[-1].append(x)
+    return found
+
+
+def joined(f, between, xs):
+    return [y for i, x in enumerate(xs) for y in (between if i else []) + f(x)]
+
+
+def text_of(string):
+    """The bytes of a string, which is one of all or a record."""
+    return string.arguments[0] if isinstance(string, Made) else string["bytes"]["items"]
 
 
 def text_of_option(name, rows):
@@ -271,7 +297,7 @@ LIBRARY = {
     "as_bool": as_kind("boolean"), "as_number": as_kind("number"), "as_str": as_kind("string"), "as_array": as_kind("array"),
     "as_object": as_kind("object"), "as_u64": as_kind("unsigned"), "as_i64": (1, as_i64), "decode_pairs": (2, bytes_of_digits),
     "put": (3, members_with), "items_of": (1, items_of), "encode_lower": (1, lambda bs: list(bytes(bs).hex().encode())),
-    "bit_or": (2, lambda a, b: a | b), "signed_decimal": (1, in_signs), "string_bytes": (1, lambda x: x.arguments[0]),
+    "bit_or": (2, lambda a, b: a | b), "signed_decimal": (1, in_signs), "string_bytes": (1, text_of),
     "is_ascii_hexdigit": (1, lambda c: 48 <= c <= 57 or 65 <= c <= 70 or 97 <= c <= 102),
     "suffix_len": (2, lambda f, xs: first_place(lambda x: not f(x), xs[::-1])),
     "IsTrue": (1, lambda a: a),
@@ -284,21 +310,30 @@ LIBRARY = {
     "is_ascii_alphanumeric": (1, lambda c: c < 128 and chr(c).isalnum()), "is_ascii_digit": (1, lambda c: 48 <= c <= 57),
     "starts_with": (3, lambda f, xs, front: xs[:len(front)] == front), "abs_diff": (2, lambda a, b: abs(a - b)),
     "ends_with": (3, lambda f, xs, back: xs[::-1][:len(back)] == back[::-1]),
+    "slice_split": (2, parts_between), "after_first": (2, lambda f, xs: xs[first_place(f, xs) + 1:]), "join_by": (3, joined),
+    "int_le": (2, lambda a, b: as_int(a) <= as_int(b)), "encode_utf8": (1, lambda c: list(chr(c).encode())),
     "zip": (2, lambda xs, ys: [(x, y) for x, y in zip(xs, ys)]), "digit_glyph": (2, lambda u, d: in_digits(16, u, d)[0]),
 }
+# Where the toolchain's own definitions are, for those that are computed by their text.
+KIT = os.path.dirname(os.path.dirname(os.path.realpath(shutil.which("rt") or "/")))
 # What many rows come to again with the same values: computed once for each mutant.
 AGAIN = {("dsa_book", "Machine", "next"), ("dsa_book", "State", "opening")}
 # Values of types of which something is said of all.
 SOME_OF = {
     "String": [Made("String", ([],)), Made("String", ([97, 126],))],
     "Key": [{"name": Part(now=[97]), "in_caps": it} for it in (False, True)],
-    "Vec": [Part(items=[])],
+    "Vec": [Part(items=[], alloc=None)],
     "WatchedWriter": [{"writer": Part(now=[n]), "refused": r, "closed": c} for n in (0, 1) for r in (0, 1) for c in (0, 1)],
     "CountedReader": [
         {"reader": Part(now=[n]), "asked": n, "given": n, "last": n, "failed": it} for n in (0, 1) for it in (False, True)
     ],
     "Cell": [{"0": it} for it in range(40)],
     "Global": [None],
+    "Finding": [
+        {"fault": fault, "place": {"line": line, "column": column, "kind": NONE}, "reasons": Part(items=items, alloc=None)}
+        for fault in (Made("BadCaps"), Made("BadStep", (0,)), Made("BadStep", (1,))) for line in (NONE, some(1))
+        for column in (NONE, some(1)) for items in [[Made("NotUtf8")] * n for n in range(3)]
+    ],
     "Block": [
         Made("Nothing"), Made("Fence", (4,)), Made("Failed", (4, 2)), Made("Buffers", (0, 4)), Made("Buffers", (1, 4)),
         Made("NoGroup"),
@@ -314,7 +349,7 @@ MADE = {
     "pos", "negsuc", "Ok", "Err",
 }
 # What stands in a record and is never computed: proofs, and the place of a vector in memory.
-UNSEEN = {"refl", "omega", "lit≤", "null_ptr"}
+UNSEEN = {"refl", "omega", "lit≤", "null_ptr", "∣", "IsUtf8-nil"}
 VALUES = {"true": True, "false": False, "[]": [], "zero": 0, "tt": None, "⊤": True, "⊥": False, "Unit": True,
           "quote": 34, "backslash": 92}
 # As many numbers are tried where something is said of all.
@@ -351,7 +386,7 @@ class Computer:
     def __init__(self, modules):
         self.modules = modules
         self.reached, self.values, self.known = set(), {}, {}
-        self.code = {}
+        self.code, self.basic, self.kit = {}, {}, {}
         for module in modules.values():
             self.load(module, self.code)
         self.basic = dict(self.code)
@@ -420,9 +455,40 @@ class Computer:
                 return "value", parts[-1]
             if parts[-1] in LIBRARY:
                 return "library", parts[-1]
+            found = self.of_the_kit(parts)
+            if found:
+                return found
         if name in VALUES:
             return "value", name
         raise Stuck(f"{name} in {module.crate}.{module.name}")
+
+    def of_the_kit(self, parts):
+        """What a path of the toolchain's own definitions means, by their text, or nothing."""
+        crate, place, name = parts[1], parts[3:-1], parts[-1]
+        if parts[0] != "Rattle" or parts[2] != "specs" or crate.startswith("dsa_") or "declared" in place:
+            return None
+        module = self.kit.setdefault((crate, *place), self.kit_module(crate, place))
+        if module is None or name not in module.definitions:
+            made = module and any(name == label for it in module.definitions.values() if it.kind == "data" for label, *_ in it.fields)
+            return ("made", name) if made else None
+        return "own", (module.crate, module.name, name)
+
+    def kit_module(self, crate, place):
+        """A module of the toolchain's definitions, whose code is known from then on."""
+        if (crate, *place) in self.kit:
+            return self.kit[(crate, *place)]
+        for one in (crate, "core"):
+            path = f"{KIT}/rattle/{one}/specs/{'/'.join(place)}.antt"
+            if os.path.exists(path):
+                try:
+                    with open(path, encoding="utf-8") as it:
+                        module = Module(one, ".".join(place), it.read())
+                except Unknown:
+                    continue
+                self.load(module, self.basic)
+                self.load(module, self.code)
+                return module
+        return None
 
 
 class Defined:
@@ -457,7 +523,7 @@ class Defined:
                 writer.pattern(pattern, name, tests, local)
             body = writer.term(clause.body, local)
             lines.append(f"    if {' and '.join(tests) or 'True'}: return {body}")
-        lines.append("    raise Stuck('no clause')")
+        lines.append(f"    raise Stuck('no clause of {self.definition.name}')")
         space = {
             "Stuck": Stuck, "Made": Made, "C": self.computer, "L": LIBRARY, "V": VALUES, "curried": curried,
             "applied": applied, "same": same, "field": field_of, "record": dict, "then": then, "SOME_OF": SOME_OF,
@@ -677,7 +743,7 @@ class Writer:
         inner = node.parts[0]
         if inner.kind == "name" and inner.value not in local:
             paths = self.module.uses.get(inner.value, [])
-            if any(path.endswith(("TheVariants", ".specs.Json")) for path in paths):
+            if any(path.endswith(("TheVariants", ".specs.Json", ".specs.Token")) for path in paths):
                 return f"Made({node.value[0]!r})"
         return f"field({self.term(inner, local)}, {node.value[0]!r})"
 

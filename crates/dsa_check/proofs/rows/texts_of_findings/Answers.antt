@@ -21,3 +21,7 @@ returns-clause-told c reasons = refl
 pub returns-clause-bare : goal.returns-clause-bare
 unfolding digits_on_literals
 returns-clause-bare c reasons = refl
+
+pub returns-clause-flaw : goal.returns-clause-flaw
+unfolding digits_on_literals
+returns-clause-flaw c reasons = refl

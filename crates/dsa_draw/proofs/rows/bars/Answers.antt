@@ -17,3 +17,11 @@ returns-clause-ended_once c levels = refl
 pub returns-clause-not_started : goal.returns-clause-not_started
 unfolding drawn_on_literals
 returns-clause-not_started c levels = refl
+
+pub returns-clause-in_a_range : goal.returns-clause-in_a_range
+unfolding drawn_on_literals
+returns-clause-in_a_range c levels = refl
+
+pub returns-clause-noted : goal.returns-clause-noted
+unfolding drawn_on_literals
+returns-clause-noted c memory = refl

@@ -1,11 +1,11 @@
 use Rattle.dsa_explain_rows.proofs.devices.answers.Goals as goal
 use Rattle.std.proofs.Common.{◌≡◌, [], ◌∷◌, None, Some, ap, arith, refl, subst, sym}
-use Rattle.std.specs.Prelude.{List, Option, map, option_map, unwrap_or}
+use Rattle.std.specs.Prelude.{List, Option, option_map, unwrap_or}
 use Rattle.dsa_book.specs.declared.{answer.PollAnswer.TheVariants.{Full, Nothing}, event.Step.{Step}}
-use Rattle.dsa_book.specs.declared.event.Event.TheVariants as event
 use Rattle.dsa_device.specs.Running.{Running, running_at_first, after_answers}
 use Rattle.dsa_worked.specs.{Setup.{polled}, Uneven.{many_queues}}
 use Rattle.dsa_explain_rows.specs.Alike.{second_write}
+use Rattle.dsa_explain_rows.proofs.Stepless.{asks_nothing}
 
 pub returns-clause-no_events : goal.returns-clause-no_events
 returns-clause-no_events c = record { steps = []; added = refl; events_are = refl; answered = refl }
@@ -19,10 +19,7 @@ returns-clause-two_events c = record {
 }
 
 pub returns-clause-no_step : goal.returns-clause-no_step
-returns-clause-no_step c is =
-    let none : [] ≡ is.steps = is.added in
-    let same = subst (λ (steps : List Step). map (λ step. step.event) steps ≡ event.Poll ∷ []) (sym none) is.events_are in
-    grind (arith, same)
+returns-clause-no_step c is = asks_nothing is.steps is.added is.events_are
 
 pub returns-clause-not_full : goal.returns-clause-not_full
 returns-clause-not_full c is =

@@ -4,11 +4,11 @@ use Rattle.std.specs.Prelude.{List, Option, Some, length, map, option_map, unwra
 use Rattle.dsa_book.specs.Machine.{is_run_after, replay, stored_steps}
 use Rattle.dsa_book.specs.State.{State}
 use Rattle.dsa_book.specs.declared.{answer.PollAnswer.TheVariants.{Full, Nothing}, event.Step.{Step}}
-use Rattle.dsa_book.specs.declared.event.Event.TheVariants as event
 use Rattle.dsa_device.specs.{Running.{Running, running_at_first}, Runs.{IsRunOf}}
 use Rattle.dsa_worked.specs.Setup.{polled}
 use Rattle.dsa_worked.specs.Uneven.{many_queues}
 use Rattle.dsa_explain_rows.specs.Alike.{device_after, first_write, second_write}
+use Rattle.dsa_explain_rows.proofs.Stepless.{asks_nothing}
 
 -- steps that may come are a run to where they lead
 run_by : (before : Running) (old steps : List Step) (last : State)
@@ -31,10 +31,7 @@ pub returns-clause-full : goal.returns-clause-full
 returns-clause-full c = run_by (device_after 1 (first_write ∷ [])) [] (polled Full ∷ []) _ refl refl
 
 pub returns-clause-no_step : goal.returns-clause-no_step
-returns-clause-no_step c is =
-    let none : [] ≡ is.steps = is.added in
-    let same = subst (λ (steps : List Step). map (λ step. step.event) steps ≡ event.Poll ∷ []) (sym none) is.events_are in
-    grind (arith, same)
+returns-clause-no_step c is = asks_nothing is.steps is.added is.events_are
 
 pub returns-clause-not_full : goal.returns-clause-not_full
 returns-clause-not_full c is =

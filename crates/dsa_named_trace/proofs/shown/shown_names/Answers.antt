@@ -11,7 +11,7 @@ returns g c =
     let names = map own_of c.args.names.now in
     let entry = c.args.entry.now in
     let now = c.args.device.now in
-    IfOk-weaker c.names_among.result
+    IfOk-weaker c.names_about.result
     (λ found. map own_of found.items ≡ filter (λ (own : Own). is_about own.0 entry c.fates.result.now
     || list_any (λ other. other == own.0) c.deref.result.now) names)
     (λ found. map own_of found.items ≡ shown_names c.args.form names entry now)
@@ -21,4 +21,4 @@ returns g c =
     ∙ ap (λ l. filter (λ (own : Own). is_about own.0 entry now.state.work.fates
     || list_any (λ other. other == own.0) l) names)
     (c.deref.ensures.value ∙ c.in_ok-listed.ensures))
-    c.names_among.ensures
+    c.names_about.ensures

@@ -1,0 +1,198 @@
+-- Stored worlds that are expanded one after the other.
+use Rattle.std.proofs.Common.{◌≡◌, ℕ, zero, suc, ◌+◌, ◌<◌, ◌≤◌, Bool, true, false, List, [], ◌∷◌, Some, refl, sym}
+use Rattle.std.proofs.Common.{ap, ◌∙◌, subst, map, length, inl, ⊎_elim, arith}
+use Rattle.std.specs.Prelude.{slice_get}
+use Rattle.std.proofs.lemmas.{Option.{same_Some}, Bool.{cases_eq}}
+use Rattle.dsa_base.specs.Lists.{In}
+use Rattle.dsa_book.specs.declared.answer.Reply.{Reply}
+use Rattle.dsa_keys.specs.Parties.{World, Stored, world_after}
+use Rattle.dsa_parties.specs.declared.places.Move.{Move}
+use Rattle.dsa_explore.specs.declared.found.Found.{Found}
+use Rattle.dsa_explore.specs.declared.stored.{Node.{Node}, Search.{Search}, Try.{Try}}
+use Rattle.dsa_explore.specs.{Explored.{AreFindings}, Stored.{node_levels, IsAdvanced}}
+use Rattle.dsa_explore.specs.Search.{Space, IsFine, IsLawfulSpace, IsWorldTable, IsKeyOf, IsStoredWorld, AreRows}
+use Rattle.dsa_explore.specs.Search.{IsExpanded}
+use Rattle.dsa_explore.specs.Search.{queue_taken_from}
+use Rattle.dsa_explore.proofs.Reached.{reached-none}
+use Rattle.dsa_explore.specs.Trying.{IsSearch, IsAt, IsThere, IsTriedOrStopped, IsExpandedAt}
+use Rattle.dsa_explore.specs.Trying.{IsExpandedOrStopped}
+use Rattle.dsa_explore.proofs.Growth.{In-get, get-below, own-key, table-on, rows-on}
+use Rattle.dsa_explore.proofs.Tables.{other-keys, expanded-more, all-tried}
+use Rattle.dsa_explore.proofs.Whole.{all-found, rows-found}
+
+-- ---- places of lists
+
+get-mapped : {X Y : Type 0} (f : X → Y) (xs : List X) (i : ℕ) (x : X) → slice_get xs i ≡ Some x
+    → slice_get (map f xs) i ≡ Some (f x)
+get-mapped f [] i x h = absurd cc
+get-mapped f (y ∷ ys) zero x h = let e : y ≡ x = cc in ap (λ z. Some (f z)) e
+get-mapped f (y ∷ ys) (suc i) x h = get-mapped f ys i x h
+
+-- below the length there is one
+pub get-at : {X : Type 0} (xs : List X) (i : ℕ) → i < length xs → (x : X) × (slice_get xs i ≡ Some x)
+get-at [] i h = absurd (omega (arith, h))
+get-at (x ∷ xs) zero h = (x, refl)
+get-at (x ∷ xs) (suc i) h = get-at xs i (omega (arith, h))
+
+-- the worlds below this number were expanded
+pub record IsAhead {P : Type 0} (space : Space P Move) (first : World P) (search : Search) (number : ℕ) : Type 0 where
+  pub table : List (Stored P)
+  pub is_search : IsSearch space first search table
+  pub expanded : (i : ℕ) (x : Stored P) → i < number → slice_get table i ≡ Some x
+      → IsExpanded space.parties space.asks table search.rows.items (x.level + 1) x.world
+
+module _ {P : Type 0} (space : Space P Move) (lawful : IsLawfulSpace space) (first : World P) where
+  -- ---- one world
+
+  advanced : (old new : Search) (level : ℕ) (table : List (Stored P)) → IsSearch space first old table
+      → IsAdvanced old level new → IsSearch space first new table
+  advanced old new level table is a =
+      subst (λ (s : Search). IsSearch space first s table) (sym a.changed)
+      (record {
+        table_is = table-on space lawful first old.seen.strings (node_levels old) old.front
+            (level + 1) table is.table_is
+            a.before;
+        rows_are = rows-on space lawful first old.front (level + 1) old.rows.items is.rows_are a.before;
+      })
+
+  -- the search stands at a world where its front has moved behind it
+  pub stands : (old new : Search) (node : Node) (table : List (Stored P)) (number : ℕ) (x : Stored P)
+      → IsSearch space first old table → slice_get table number ≡ Some x
+      → slice_get old.nodes.items number ≡ Some node → IsAdvanced old node.level new
+      → IsAt space first new table number x
+  stands old new node table number x is at here a =
+      let level = same_Some x.level node.level
+      (sym (get-mapped (λ (y : Stored P). y.level) table number x at)
+      ∙ ap (λ (l : List ℕ). slice_get l number) is.table_is.levelled
+      ∙ get-mapped (λ (n : Node). n.level) old.nodes.items number node here) in
+      let front = ap (λ (s : Search). s.front) a.changed in
+      record {
+        is_search = advanced old new node.level table is a;
+        at = at;
+        front = front ∙ ap (λ n. n + 1) (sym level);
+      }
+
+  -- where all that is listed was tried, the world was expanded
+  pub tried-all : (old mid new : Search) (table : List (Stored P)) (number : ℕ) (x : Stored P) (v : World P)
+      (tries : List Try) → IsAt space first mid table number x → mid.rows ≡ old.rows → IsThere space x v
+      → ((w : World P) (move : Move) (reply : Reply) → world_after space.parties v move reply ≡ Some w
+      → In (record { by = move; queue = queue_taken_from reply }) tries)
+      → (goes_on : Bool) → IsTriedOrStopped space first mid table number x tries new goes_on
+      → IsExpandedOrStopped space first old table number x new goes_on
+  tried-all old mid new table number x v tries is same there covers false rows = rows
+  tried-all old mid new table number x v tries is same there covers true tried =
+      let fine = (is.is_search.table_is.worlds x (In-get table number x is.at)).fine in
+      record {
+        more = tried.more;
+        is_search = tried.further.is_at.is_search;
+        worlds = tried.further.worlds;
+        kept = tried.further.kept;
+        rows = λ row i. tried.further.rows row
+            (subst (λ (r : List Found). In row r) (sym (ap (λ r. r.items) same)) i);
+        expanded = all-tried space.caps space.parties space.asks space.good lawful.lawful tried.more new.rows.items
+            (x.level + 1) x.world v (λ move queue. In (record { by = move; queue = queue }) tries) fine.good
+            there.fine.good (other-keys v x.world there.keys) covers
+            (λ move queue i. tried.tried (record { by = move; queue = queue }) i);
+      }
+
+  -- ---- all worlds
+
+  pub ahead-none : (search : Search) (table : List (Stored P)) → IsSearch space first search table
+      → IsAhead space first search 0
+  ahead-none search table is = record {
+    table = table;
+    is_search = is;
+    expanded = λ i x below. absurd (omega (arith, below));
+  }
+
+  pub ahead-more : (old new : Search) (number : ℕ) (x : Stored P) → (a : IsAhead space first old number)
+      → slice_get a.table number ≡ Some x → IsExpandedAt space first old a.table number x new
+      → IsAhead space first new (number + 1)
+  ahead-more old new number x a at e = record {
+    table = e.more;
+    is_search = e.is_search;
+    expanded = λ i y below here. ⊎_elim
+        (λ (same : i ≡ number).
+        let is : x ≡ y = same_Some x y
+        (sym (e.worlds number x at) ∙ sym (ap (slice_get e.more) same) ∙ here) in
+        subst (λ (z : Stored P).
+        IsExpanded space.parties space.asks e.more new.rows.items (z.level + 1) z.world) is e.expanded)
+        (λ other.
+        let low : i < number = omega (arith, below, other) in
+        let z = get-at a.table i (omega (arith, low, get-below a.table number x at)) in
+        let is : z.0 ≡ y = same_Some z.0 y (sym (e.worlds i z.0 z.1) ∙ here) in
+        subst (λ (z : Stored P).
+        IsExpanded space.parties space.asks e.more new.rows.items (z.level + 1) z.world) is
+        (expanded-more space.asks a.table e.more old.rows.items new.rows.items e.kept e.rows space.parties
+        (z.0.level + 1) z.0.world (a.expanded i z.0 low z.1)))
+        (cases_eq i number);
+  }
+
+  -- below the number of worlds there is one to expand
+  pub ahead-next : (search : Search) (number : ℕ) → (a : IsAhead space first search number)
+      → number < length search.seen.strings → (x : Stored P) × (slice_get a.table number ≡ Some x)
+  ahead-next search number a below =
+      get-at a.table number (omega (arith, below, a.is_search.table_is.count))
+
+  -- at the end all that may come is found
+  pub ahead-all : (search : Search) (number : ℕ) → IsFine space first → IsAhead space first search number
+      → length search.seen.strings ≤ number
+      → AreFindings space.parties space.asks first search.rows.items true
+  ahead-all search number fine a enough =
+      all-found space lawful first search.seen.strings (node_levels search) search.front number
+      search.rows.items a.table
+      fine a.is_search.table_is a.is_search.rows_are enough a.expanded
+
+  -- a search that stops has rows that may come
+  pub stopped : (search : Search) → AreRows space first search.front search.rows.items
+      → AreFindings space.parties space.asks first search.rows.items false
+  stopped search is = rows-found space lawful first search.front search.rows.items is
+
+  -- by the number of worlds
+  pub ahead-by : (search : Search) (number : ℕ) (is_complete : Bool) → IsFine space first
+      → IsAhead space first search number
+      → (is_complete ≡ true → length search.seen.strings ≤ number)
+      → AreFindings space.parties space.asks first search.rows.items is_complete
+  ahead-by search number true fine a enough = ahead-all search number fine a (enough refl)
+  ahead-by search number false fine a enough = stopped search a.is_search.rows_are
+
+  -- ---- the first world
+
+  pub begun : (search : Search) → IsFine space first → search.seen.strings ≡ space.bytes_of first ∷ []
+      → node_levels search ≡ 0 ∷ [] → search.rows.items ≡ []
+      → IsSearch space first search (record { level = 0; world = first } ∷ [])
+  begun search fine keys levels rows = record {
+    table_is = subst (λ (l : List ℕ). IsWorldTable space first search.seen.strings l search.front only) (sym levels)
+        (subst (λ (k : List (List ℕ)). IsWorldTable space first k (0 ∷ []) search.front only) (sym keys) (record {
+          count = refl;
+          keyed = λ i bytes x at here. keyed i bytes x at here;
+          levelled = refl;
+          worlds = λ x i. ⊎_elim (λ (e : here ≡ x). subst (IsStoredWorld space first) e stored) (λ j. absurd j) i;
+          low = λ x i. ⊎_elim (λ (e : here ≡ x). subst (λ (z : Stored P). z.level ≤ search.front) e (omega arith))
+              (λ j. absurd j) i;
+          begin = inl refl;
+        }));
+    rows_are = subst (λ (r : List Found). AreRows space first search.front r) (sym rows)
+        (record {
+          sound = λ row i. absurd i;
+          early = λ row i. absurd i;
+          distinct = λ row other i. absurd i;
+        });
+  }
+    where
+      here : Stored P
+      here = record { level = 0; world = first }
+
+      only : List (Stored P)
+      only = here ∷ []
+
+      stored : IsStoredWorld space first here
+      stored = record { fine = fine; reached = reached-none space.parties first }
+
+      keyed : (i : ℕ) (bytes : List ℕ) (x : Stored P) → slice_get (space.bytes_of first ∷ []) i ≡ Some bytes
+          → slice_get only i ≡ Some x → IsKeyOf space bytes x.world
+      keyed zero bytes x at is =
+          subst (λ (z : Stored P). IsKeyOf space bytes z.world) (same_Some here x is)
+          (subst (λ (b : List ℕ). IsKeyOf space b first) (same_Some (space.bytes_of first) bytes at)
+          (own-key space lawful first first fine))
+      keyed (suc i) bytes x at is = absurd cc

@@ -1,0 +1,22 @@
+-- The key of a world in bytes.
+use Rattle.std.specs.Prelude.{ℕ, List, ◌++◌, length, flat_map}
+use Rattle.dsa_keys.specs.{Short.{short_key}, Parties.{World}}
+use Rattle.dsa_key_bytes.specs.{Numbers.{number_bytes}, KeyBytes.{key_bytes}}
+use Rattle.dsa_parties.specs.declared.places.ClientPlace.{ClientPlace}
+use Rattle.dsa_parties.specs.Standing.{Standing}
+
+-- how many there are, and the bytes of each
+abbrev pub counted_bytes : {A : Type 0} → (A → List ℕ) → List A → List ℕ
+counted_bytes bytes xs = number_bytes (length xs) ++ flat_map bytes xs
+
+-- the bytes of where a client stands
+abbrev pub client_bytes : ClientPlace → List ℕ
+client_bytes place = number_bytes place.next ++ number_bytes place.refusals
+
+-- the bytes of where all parties stand
+abbrev pub place_bytes : Standing → List ℕ
+place_bytes stand = counted_bytes client_bytes stand.clients ++ counted_bytes number_bytes stand.administrators
+
+-- the bytes of a world: where the parties stand, and the short key of the state
+abbrev pub world_bytes : World Standing → List ℕ
+world_bytes w = place_bytes w.places ++ key_bytes (short_key w.labels w.state)

@@ -1,0 +1,79 @@
+-- A search while it tries the moves from one stored world.
+use Rattle.std.specs.Prelude.{◌≡◌, ℕ, ◌+◌, Bool, true, false, List, Option, Some, None, slice_get}
+use Rattle.dsa_base.specs.Lists.{In}
+use Rattle.dsa_keys.specs.Parties.{World, Stored, HaveEqualKeys}
+use Rattle.dsa_parties.specs.declared.places.Move.{Move}
+use Rattle.dsa_explore.specs.declared.found.Found.{Found}
+use Rattle.dsa_explore.specs.declared.stored.{Search.{Search}, Try.{Try}}
+use Rattle.dsa_explore.specs.Search.{Space, IsFine, IsWorldTable, AreRows, IsExpanded, IsTriedBy}
+use Rattle.dsa_explore.specs.Stored.{node_levels}
+
+-- the worlds of a table are stored in the search, and its rows may come
+pub record IsSearch {P : Type 0} (space : Space P Move) (first : World P) (search : Search) (table : List (Stored P))
+    : Type 0 where
+  pub table_is : IsWorldTable space first search.seen.strings (node_levels search) search.front table
+  pub rows_are : AreRows space first search.front search.rows.items
+
+-- the search stands at the stored world of this number, which is one level before its front
+pub record IsAt {P : Type 0} (space : Space P Move) (first : World P) (search : Search) (table : List (Stored P))
+    (number : ℕ) (x : Stored P) : Type 0 where
+  pub is_search : IsSearch space first search table
+  pub at : slice_get table number ≡ Some x
+  pub front : search.front ≡ x.level + 1
+
+-- later it stands there still, and all that was stored and found is
+pub record IsFurther {P : Type 0} (space : Space P Move) (first : World P) (old : Search) (table : List (Stored P))
+    (number : ℕ) (x : Stored P) (new : Search) (more : List (Stored P)) : Type 0 where
+  pub is_at : IsAt space first new more number x
+  pub worlds : (i : ℕ) (y : Stored P) → slice_get table i ≡ Some y → slice_get more i ≡ Some y
+  pub kept : (y : Stored P) → In y table → In y more
+  pub rows : (row : Found) → In row old.rows.items → In row new.rows.items
+
+-- and these were tried
+pub record AreTried {P : Type 0} (space : Space P Move) (first : World P) (old : Search) (table : List (Stored P))
+    (number : ℕ) (x : Stored P) (tries : List Try) (new : Search) : Type 0 where
+  pub more : List (Stored P)
+  pub further : IsFurther space first old table number x new more
+  pub tried : (try : Try) → In try tries
+      → IsTriedBy space.parties space.asks more new.rows.items (x.level + 1) x.world try.by try.queue
+
+-- the world is a fine one, with the key of the stored one
+pub record IsThere {P : Type 0} (space : Space P Move) (x : Stored P) (w : World P) : Type 0 where
+  pub fine : IsFine space w
+  pub keys : HaveEqualKeys w x.world
+
+-- one step was tried from the stored world; where it led back, the world w has its key
+pub record IsAttempted {P : Type 0} (space : Space P Move) (first : World P) (old : Search) (table : List (Stored P))
+    (number : ℕ) (x : Stored P) (try : Try) (new : Search) (w : World P) (back : Bool) : Type 0 where
+  pub more : List (Stored P)
+  pub further : IsFurther space first old table number x new more
+  pub tried : IsTriedBy space.parties space.asks more new.rows.items (x.level + 1) x.world try.by try.queue
+  pub there : back ≡ true → IsThere space x w
+
+-- a search that stops has rows that may come
+abbrev pub IsTriedOrStopped : {P : Type 0} → Space P Move → World P → Search → List (Stored P) → ℕ → Stored P
+    → List Try → Search → Bool → Type 0
+IsTriedOrStopped space first old table number x tries new true = AreTried space first old table number x tries new
+IsTriedOrStopped space first old table number x tries new false = AreRows space first new.front new.rows.items
+
+-- the same of one step
+abbrev pub IsAttemptedOrStopped : {P : Type 0} → Space P Move → World P → Search → List (Stored P) → ℕ → Stored P
+    → Try → Search → World P → Option Bool → Type 0
+IsAttemptedOrStopped space first old table number x try new w (Some back) =
+    IsAttempted space first old table number x try new w back
+IsAttemptedOrStopped space first old table number x try new w None = AreRows space first new.front new.rows.items
+
+-- a search that goes on has expanded the world, and one that stops has rows that may come
+pub record IsExpandedAt {P : Type 0} (space : Space P Move) (first : World P) (old : Search) (table : List (Stored P))
+    (number : ℕ) (x : Stored P) (new : Search) : Type 0 where
+  pub more : List (Stored P)
+  pub is_search : IsSearch space first new more
+  pub worlds : (i : ℕ) (y : Stored P) → slice_get table i ≡ Some y → slice_get more i ≡ Some y
+  pub kept : (y : Stored P) → In y table → In y more
+  pub rows : (row : Found) → In row old.rows.items → In row new.rows.items
+  pub expanded : IsExpanded space.parties space.asks more new.rows.items (x.level + 1) x.world
+
+abbrev pub IsExpandedOrStopped : {P : Type 0} → Space P Move → World P → Search → List (Stored P) → ℕ → Stored P
+    → Search → Bool → Type 0
+IsExpandedOrStopped space first old table number x new true = IsExpandedAt space first old table number x new
+IsExpandedOrStopped space first old table number x new false = AreRows space first new.front new.rows.items

@@ -1,0 +1,87 @@
+//! The worlds that a search stored, by their keys, and the rows that it found.
+
+ghost use Rattle.std.specs.Prelude.{◌≡◌, IfOk, IfSome, OnOk};
+ghost use Rattle.dsa_explore.specs.Findings.{findings_told};
+ghost use Rattle.dsa_explore.specs.Rows.{AddsRows, labels_of};
+ghost use Rattle.dsa_explore.specs.Stored.{IsStoredAt};
+
+use crate::found::Found;
+use crate::rows::{Told, add_findings};
+use dsa_parties::Move;
+use dsa_seen::{Inserted, Seen};
+use std::alloc::AllocError;
+
+/// A move, and the queue that an entry is to be taken from, if one is.
+#[derive(Clone, Copy, Debug, PartialEq, Eq)]
+pub struct Try {
+    pub by: Move,
+    pub queue: Option<u16>,
+}
+
+/// How a world was first reached: from which one, by what, and after how many moves in all.
+#[derive(Clone, Copy, Debug, PartialEq, Eq)]
+pub struct Node {
+    pub parent: u32,
+    pub tried: Try,
+    pub level: u32,
+}
+
+/// A search: a key and a node for each world that was stored, the rows, the level of the worlds
+/// that are stored now, and how many steps were tried.
+#[derive(Drop)]
+pub struct Search {
+    pub seen: Seen,
+    pub nodes: Vec<Node>,
+    pub rows: Vec<Found>,
+    pub front: u32,
+    pub tried: u64,
+}
+
+// Stores a world by its key, if it was not stored, and gives its number. `None` where it does not
+// fit.
+fn store(
+    search: &mut Search,
+    key: &[u8],
+    parent: u32,
+    tried: Try,
+) -> Result<Option<u32>, AllocError>
+    ensures stored { IfOk result
+        (λ number. IfSome number (λ i. IsStoredAt search.old key.now i search.new)) }
+    ensures rows { OnOk result (search.new.rows ≡ search.old.rows) }
+    ensures front { OnOk result (search.new.front ≡ search.old.front) }
+{
+    match search.seen.insert(key) {
+        Inserted::Old(number) => Ok(Some(number)),
+        Inserted::New(number) => {
+            let level = search.front;
+            search.nodes.push(Node {
+                parent,
+                tried,
+                level,
+            })?;
+            Ok(Some(number))
+        }
+        _ => Ok(None),
+    }
+}
+
+/// Adds what a step told, and stores where it led to.
+pub fn note(
+    search: &mut Search,
+    told: &Told<'_>,
+    key: &[u8],
+    parent: u32,
+    tried: Try,
+) -> Result<Option<u32>, AllocError>
+    ensures stored { IfOk result
+        (λ number. IfSome number (λ i. IsStoredAt search.old key.now i search.new)) }
+    ensures rows { OnOk result
+        (AddsRows search.old.front
+        (findings_told told.now.ask (labels_of told.now.labels.now) told.now.reply told.now.ends.now
+        told.now.awaited.now) search.old.rows.items search.new.rows.items) }
+    ensures front { OnOk result (search.new.front ≡ search.old.front) }
+{
+    add_findings(&mut search.rows, told, search.front)?;
+    search.tried = search.tried.saturating_add(1);
+    store(search, key, parent, tried)
+}

@@ -1,0 +1,351 @@
+//! A device on which the parties of a script moved.
+
+ghost use Rattle.std.specs.Prelude.{◌≡◌, ◌&&◌, ◌==◌, ℕ, Some, IfOk, IfSome, true, false, find, option_map};
+ghost use Rattle.dsa_store.specs.Content.{HeldEntry};
+ghost use Rattle.dsa_book.specs.Machine.{next};
+ghost use Rattle.dsa_keys.specs.Labels.{with_label};
+ghost use Rattle.dsa_keys.specs.Parties.{world_after};
+ghost use Rattle.dsa_keys.specs.Steps.{event_by_label};
+ghost use Rattle.dsa_parties.specs.Standing.{stand_of};
+ghost use Rattle.dsa_device.specs.Running.{running_at_first};
+ghost use Rattle.dsa_parties.specs.Offers.{bare_offer, has_engine, label_ticket, may_give, parties_of};
+ghost use Rattle.dsa_parties.specs.declared.places.Move.TheVariants as move;
+ghost use Rattle.dsa_book.specs.declared.event.Event.TheVariants as event;
+ghost use Rattle.dsa_base.specs.Rows.{when};
+ghost use Rattle.dsa_explore.specs.declared.walked.Offered.{Offered};
+ghost use Rattle.dsa_explore.specs.Rows.{labels_of};
+ghost use Rattle.dsa_explore.specs.Search.{IsFine, queue_taken_from};
+ghost use Rattle.dsa_explore.specs.Walked.{IsFirst, IsOffer, ask_of, space_of, world_of};
+
+use crate::found::Ask;
+use crate::rows::{label_of, labelled_reply};
+use crate::running::running_on;
+use crate::stored::Try;
+use dsa_book::{BatchNote, Event, Reply, Ticket};
+use dsa_desc::Outcome;
+use dsa_device::MakeFault;
+use dsa_linked::LinkedDevice;
+use dsa_parties::{Move, Places, Script};
+use dsa_regs::Caps;
+use dsa_store::{Cell, Entry};
+use std::alloc::{AllocError, Global};
+
+/// What is explored: the parties of a script, on a device with these capabilities, after the events
+/// of a set-up.
+#[derive(Clone, Copy)]
+pub struct Plan<'a> {
+    pub caps: Caps,
+    pub script: &'a Script,
+    pub setup: &'a [Event],
+}
+
+/// A device, the labels of its names, and where the parties stand.
+#[derive(Drop)]
+pub struct Walked {
+    pub machine: LinkedDevice,
+    pub labels: Vec<u32>,
+    pub places: Places,
+}
+
+/// An event by labels, and the label of an entry that it may bring in.
+#[derive(Clone, Copy)]
+pub struct Offered {
+    pub event: Event,
+    pub label: u32,
+}
+
+// A new device. `None` where there is none with these capabilities.
+fn new_machine(alloc: Global, caps: Caps, capacity: u64) -> Result<Option<LinkedDevice>, AllocError>
+    ensures { IfOk result
+        (λ found. IfSome found (λ machine. machine.device ≡ running_at_first caps capacity)) }
+{
+    match LinkedDevice::new(alloc, caps, capacity) {
+        Ok(machine) => Ok(Some(machine)),
+        Err(MakeFault::OutOfMemory) => Err(AllocError),
+        Err(_) => Ok(None),
+    }
+}
+
+// Whether a name was given.
+fn has_names(machine: &LinkedDevice) -> bool
+    ensures { result ≡ false → machine.now.device.state.work.setup.next_name ≡ 0 }
+{
+    machine.device.next_name() > 0
+}
+
+/// A new device after the set-up. `None` where it cannot be made, or an entry came in.
+pub fn begin(alloc: Global, plan: &Plan<'_>, capacity: u64) -> Result<Option<Walked>, AllocError>
+    ensures fine { IfOk result
+        (λ found. IfSome found
+        (λ walked. IsFine (space_of plan.now.caps plan.now.script.now) (world_of walked))) }
+    ensures begun { IfOk result
+        (λ found. IfSome found
+        (λ walked. IsFirst plan.now.caps plan.now.script.now plan.now.setup.now
+        (world_of walked))) }
+{
+    let Some(mut machine) = new_machine(alloc, plan.caps, capacity)? else {
+        return Ok(None);
+    };
+    let mut steps = Vec::new(alloc);
+    machine.device.run(plan.setup, &mut steps)?;
+    if has_names(&machine) {
+        return Ok(None);
+    }
+    let labels = Vec::new(alloc);
+    let places = plan.script.first_places(alloc)?;
+    Ok(Some(Walked {
+        machine,
+        labels,
+        places,
+    }))
+}
+
+// What is asked for and brings in nothing, if the engine makes steps.
+fn bare_of(script: &Script, engine: u16, event: Event) -> Option<Offered>
+    ensures { option_map (λ (o : Offered). record { event = o.event; label = o.label }) result
+        ≡ when (has_engine script.now engine) (bare_offer script.now event) }
+{
+    if !script.has_engine(engine) {
+        return None;
+    }
+    Some(Offered {
+        event,
+        label: script.spare_label(),
+    })
+}
+
+// What a client submits next.
+fn client_offer(script: &Script, walked: &Walked, client: u16) -> Option<Offered>
+    ensures { IsOffer script.now walked.now (move.Client client) result }
+{
+    let Some(turn) = script.turn(&walked.places, client) else {
+        return None;
+    };
+    Some(Offered {
+        event: turn.event(),
+        label: turn.place.next,
+    })
+}
+
+// What an administrator does next.
+fn act_offer(script: &Script, walked: &Walked, administrator: u16) -> Option<Offered>
+    ensures { IsOffer script.now walked.now (move.Administrator administrator) result }
+{
+    let Some(act) = script.act(&walked.places, administrator) else {
+        return None;
+    };
+    Some(Offered {
+        event: act.event(),
+        label: script.spare_label(),
+    })
+}
+
+// The member that an engine fetches next.
+fn fetch_offer(script: &Script, walked: &Walked, engine: u16) -> Option<Offered>
+    ensures { IsOffer script.now walked.now (move.Fetch engine) result }
+{
+    if !script.has_engine(engine) {
+        return None;
+    }
+    let Some(note) = walked.machine.device.batch(engine) else {
+        return None;
+    };
+    let batch = label_of(walked.labels.as_slice(), note.batch);
+    let Some(member) = script.next_member(&BatchNote { batch, ..note }) else {
+        return None;
+    };
+    Some(Offered {
+        event: Event::Fetch {
+            engine,
+            desc: member.desc,
+        },
+        label: member.label,
+    })
+}
+
+// The end of an entry, which has its label.
+fn finish_offer(script: &Script, engine: u16, label: u32, outcome: Outcome) -> Option<Offered>
+    ensures { option_map (λ (o : Offered). record { event = o.event; label = o.label }) result
+        ≡ when (has_engine script.now engine && may_give script.now.entries.items label outcome)
+        (bare_offer script.now (event.Finish engine (label_ticket label) outcome)) }
+{
+    if !script.may_give(label, outcome) {
+        return None;
+    }
+    let ticket = Ticket {
+        cell: Cell(0),
+        name: label,
+    };
+    let event = Event::Finish {
+        engine,
+        ticket,
+        outcome,
+    };
+    bare_of(script, engine, event)
+}
+
+/// What is asked for by this move, where the parties stand.
+pub fn offer(script: &Script, walked: &Walked, by: Move) -> Option<Offered>
+    ensures { IsOffer script.now walked.now by result }
+{
+    match by {
+        Move::Client(client) => client_offer(script, walked, client),
+        Move::Administrator(administrator) => act_offer(script, walked, administrator),
+        Move::Dispatch { engine } => bare_of(script, engine, Event::Dispatch { engine }),
+        Move::Fetch { engine } => fetch_offer(script, walked, engine),
+        Move::Start { engine } => bare_of(script, engine, Event::Start { engine }),
+        Move::Finish {
+            engine,
+            label,
+            outcome,
+        } => finish_offer(script, engine, label, outcome),
+    }
+}
+
+// The name has this label, which is that of the last name that has one or of the next. False where
+// it is another.
+fn set_label(labels: &mut Vec<u32>, name: u32, label: u32) -> Result<bool, AllocError>
+    ensures { IfOk result
+        (λ is_set. is_set ≡ true → labels_of labels.new.items
+        ≡ with_label (labels_of labels.old.items) name label) }
+{
+    let name = name as usize;
+    if labels.len() == name + 1 {
+        labels[name] = label;
+        return Ok(true);
+    }
+    if labels.len() == name {
+        labels.push(label)?;
+        return Ok(true);
+    }
+    Ok(false)
+}
+
+// Whether the name of the entry has this label.
+fn has_label(labels: &[u32], label: u32, pair: &(Cell, Entry)) -> bool
+    ensures { result ≡ (labels_of labels.now pair.now.1.name == label) }
+{
+    label_of(labels, pair.1.name) == label
+}
+
+// The first of these entries whose name has the label.
+fn find_labelled(labels: &[u32], label: u32, entries: &[(Cell, Entry)]) -> Option<(Cell, Entry)>
+    ensures { result
+        ≡ find (λ (pair : HeldEntry). labels_of labels.now pair.1.name == label) entries.now }
+{
+    entries
+        .iter()
+        .copied()
+        .find(|pair| has_label(labels, label, pair))
+}
+
+// The event with the ticket of the running entry that has the label in its place. `None` where none
+// has.
+fn event_by_label(alloc: Global, walked: &Walked, event: Event) -> Result<Option<Event>, AllocError>
+    ensures { IfOk result
+        (λ found. IfSome found
+        (λ by_name. event_by_label (labels_of walked.now.labels.items)
+        walked.now.machine.device.state event
+        ≡ Some by_name)) }
+{
+    let Event::Finish {
+        engine,
+        ticket,
+        outcome,
+    } = event
+    else {
+        return Ok(Some(event));
+    };
+    let labels = walked.labels.as_slice();
+    let running = running_on(alloc, &walked.machine.device, engine)?;
+    let Some((cell, entry)) = find_labelled(labels, ticket.name, running.as_slice()) else {
+        return Ok(None);
+    };
+    let ticket = Ticket {
+        cell,
+        name: entry.name,
+    };
+    Ok(Some(Event::Finish {
+        engine,
+        ticket,
+        outcome,
+    }))
+}
+
+// The step of the event, which takes an entry from the queue if one is named. `None` where it
+// cannot, and where the history has no room.
+fn step_from(machine: &mut LinkedDevice, event: Event, queue: Option<u16>) -> Option<Reply>
+    ensures next { IfSome result
+        (λ reply. next machine.old.device.state event reply ≡ Some machine.new.device.state) }
+    ensures queue { IfSome result
+        (λ reply. (q p : ℕ) → queue ≡ Some q → queue_taken_from reply ≡ Some p → q ≡ p) }
+{
+    if machine.device.is_full() {
+        return None;
+    }
+    let Some(queue) = queue else {
+        let reply = machine.device.step(event);
+        return Some(reply);
+    };
+    let Event::Dispatch { engine } = event else {
+        return None;
+    };
+    let Some(answer) = machine.device.dispatch_from(engine, queue) else {
+        return None;
+    };
+    Some(Reply::Dispatch(answer))
+}
+
+/// Makes the move, and takes an entry from the queue if one is named. `None` where that cannot be.
+pub fn make(
+    alloc: Global,
+    plan: &Plan<'_>,
+    walked: &mut Walked,
+    tried: Try,
+) -> Result<Option<Reply>, AllocError>
+    ensures leads { IfOk result
+        (λ found. IfSome found
+        (λ reply. world_after (parties_of plan.now.script.now) (world_of walked.old) tried.by
+        reply
+        ≡ Some (world_of walked.new))) }
+    ensures queue { IfOk result
+        (λ found. IfSome found
+        (λ reply. (q p : ℕ)
+        → tried.queue ≡ Some q
+        → queue_taken_from reply ≡ Some p
+        → q ≡ p)) }
+{
+    let Some(offered) = offer(plan.script, walked, tried.by) else {
+        return Ok(None);
+    };
+    let name = walked.machine.device.next_name();
+    if !set_label(&mut walked.labels, name, offered.label)? {
+        return Ok(None);
+    }
+    let Some(event) = event_by_label(alloc, walked, offered.event)? else {
+        return Ok(None);
+    };
+    let Some(reply) = step_from(&mut walked.machine, event, tried.queue) else {
+        return Ok(None);
+    };
+    let told = labelled_reply(walked.labels.as_slice(), reply);
+    plan.script.make_move(&mut walked.places, tried.by, &told);
+    Ok(Some(reply))
+}
+
+/// What the party asks for by this move.
+pub fn ask_of(plan: &Plan<'_>, walked: &Walked, by: Move) -> Option<Ask>
+    ensures { result ≡ ask_of plan.now.script.now (stand_of walked.now.places) by }
+{
+    match by {
+        Move::Client(client) => {
+            let turn = plan.script.turn(&walked.places, client)?;
+            Some(Ask::Submission(turn.place.next))
+        }
+        Move::Administrator(administrator) => {
+            let act = plan.script.next_act(&walked.places, administrator)?;
+            Some(Ask::Act(act))
+        }
+        _ => None,
+    }
+}

@@ -1,0 +1,4 @@
+pub mod Numbers
+pub mod Line
+pub mod KeyBytes
+pub mod Marks

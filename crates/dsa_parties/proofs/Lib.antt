@@ -1,0 +1,14 @@
+pub mod Fits
+pub mod Stands
+pub mod States
+pub mod ClientTurns
+pub mod Worlds
+pub mod Moves
+pub mod Asked
+pub mod Lawful
+pub mod Described
+pub mod Replies
+pub mod Listed
+pub mod Rooms
+pub mod MoveNumbers
+pub mod Tested

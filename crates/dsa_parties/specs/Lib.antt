@@ -1,0 +1,7 @@
+pub mod Scripts
+pub mod Standing
+pub mod Offers
+pub mod Described
+pub mod Good
+pub mod Worked
+pub mod WorkedOffers

@@ -1,0 +1,12 @@
+use Rattle.dsa_plans.proofs.labels.add_client_labels.Given as goal
+use Rattle.std.proofs.Common.{◌≡◌, ◌++◌, map, drop, string_bytes, codes}
+use Rattle.serde_json.specs.View.{view}
+use Rattle.dsa_plans.specs.PartyLabels.{step_labels, items_or, numbered_from}
+
+-- it is left to add the others
+abbrev pub invariant-loop-place : goal.invariant-loop-place
+invariant-loop-place l =
+    map string_bytes l.labels.items
+    ++ numbered_from (step_labels l.party) l.place (map view (drop l.place l.step-items))
+    ≡ map string_bytes l.initial.labels.items
+    ++ numbered_from (step_labels l.party) 0 (items_or (codes "steps") (view l.client))

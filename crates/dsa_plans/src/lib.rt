@@ -1,0 +1,16 @@
+//! Parties of a scenario document: the scripts of clients and of administrators, and the engines
+//! that make steps, as the key `parties` has them.
+//!
+//! [`read_parties`] reads them.
+#![tactic(auto)]
+
+mod acting;
+mod faults;
+mod labels;
+mod plans;
+pub mod rows;
+mod said;
+mod submitters;
+
+pub use faults::PartiesFault;
+pub use plans::{PartyScripts, read_parties};

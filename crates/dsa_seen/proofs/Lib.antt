@@ -1,0 +1,5 @@
+mod Cases
+mod Once
+mod Stored
+mod Linked
+mod Pushed
