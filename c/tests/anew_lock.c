@@ -157,7 +157,7 @@ int main(int count, char **words)
 	for (int i = 0; i <= CLIENTS + ENGINES; i++)
 		CHECK(pthread_join(thread[i], NULL) == 0);
 	CHECK(before + dsa_history_length(&shared.handle) >= wanted && begun >= 60);
-	CHECK(dsa_held(&shared.handle) == 0 && accepted == done + aborted && aborts > 5 && accepted > wanted / 8);
+	CHECK(dsa_held(&shared.handle) == 0 && accepted == done + aborted && aborts > 5 && accepted > wanted / 20);
 	for (uint64_t name = 0; name < accepted; name++)
 		CHECK(given[name] == 1 && ended[name] == 1);
 	free(given);

@@ -27,6 +27,10 @@ names_of rows = map (λ row. row.0) rows
 abbrev pub remark_names : List (List ℕ)
 remark_names = codes "note" ∷ []
 
+-- what a document may have beside the keys that a run reads: the parties of a search, and a remark
+abbrev pub document_names : List (List ℕ)
+document_names = codes "parties" ∷ remark_names
+
 -- what a step may have beside the keys of its kind: the kind, what another device was seen to answer, and a remark
 abbrev pub step_names : List (List ℕ)
 step_names = codes "do" ∷ codes "answer" ∷ codes "zf" ∷ remark_names
@@ -164,17 +168,18 @@ abbrev pub step_warnings : Option Json → ℕ → List Data → List Warned
 step_warnings written i [] = []
 step_warnings written i (d ∷ ds) = warnings_of_step written i d ++ step_warnings written (suc i) ds
 
--- what is odd in an object that is no step, with these rows
-abbrev pub object_texts : List (List ℕ) → Data → List Row → List (List ℕ)
-object_texts there d rows = stray_texts d rows remark_names ++ twice_texts there
+-- what is odd in an object that is no step, with these rows and these names besides
+abbrev pub object_texts : List (List ℕ) → Data → List Row → List (List ℕ) → List (List ℕ)
+object_texts there d rows more = stray_texts d rows more ++ twice_texts there
 
 abbrev pub document_warnings : Option Json → Data → List Warned
-document_warnings written d = warned_in BadDocument None (object_texts (keys_written written) d document_rows)
+document_warnings written d =
+    warned_in BadDocument None (object_texts (keys_written written) d document_rows document_names)
 
 abbrev pub caps_warnings : Option Json → Option Data → List Warned
 caps_warnings written None = []
 caps_warnings written (Some caps) =
-    warned_in BadCaps None (object_texts (keys_written (caps_written written)) caps caps_rows)
+    warned_in BadCaps None (object_texts (keys_written (caps_written written)) caps caps_rows remark_names)
 
 -- ---- the whole
 

@@ -21,7 +21,7 @@ ghost use Rattle.dsa_check.specs.Lines.{no_own_name_text, reason_text, stray_tex
 ghost use Rattle.dsa_check.specs.Lines.{said_text};
 ghost use Rattle.dsa_check.specs.Repeats.{keys_written, how_often, keys_again};
 ghost use Rattle.dsa_check.specs.Tables.{document_rows};
-ghost use Rattle.dsa_check.specs.Warnings.{names_of, remark_names, step_names, is_named, list_of};
+ghost use Rattle.dsa_check.specs.Warnings.{names_of, remark_names, document_names, step_names, is_named, list_of};
 ghost use Rattle.dsa_check.specs.Warnings.{friendly_names, has_no_word, odd_name};
 ghost use Rattle.dsa_check.specs.Warnings.{odd_name_of_kind};
 ghost use Rattle.dsa_check.specs.Warnings.{told_keys, is_stray, plain_key, near_name, stray_texts};
@@ -39,6 +39,12 @@ pub fn warnings_of_each_part()
     ensures no_caps { caps_warnings None None ≡ [] }
     ensures document { warnings_of_value None (object_of ((codes "step", null) ∷ right_document))
         ≡ (BadDocument, None, codes "\"step\" is no key here, but \"steps\" is") ∷ [] }
+    ensures parties { warnings_of_value None
+        (object_of ((codes "parties", null) ∷ (codes "partys", null) ∷ right_document))
+        ≡ (BadDocument, None, codes "\"partys\" is no key here, but \"parties\" is") ∷ [] }
+    ensures parties_of_caps { warnings_of_value None
+        (changed (codes "caps") (object_of ((codes "parties", null) ∷ some_caps)) right_document)
+        ≡ (BadCaps, None, codes "\"parties\" is no key here") ∷ [] }
     ensures caps { warnings_of_value None
         (changed (codes "caps") (object_of ((codes "portals", null) ∷ some_caps)) right_document)
         ≡ (BadCaps, None, codes "\"portals\" is no key here") ∷ [] }
@@ -146,6 +152,7 @@ pub fn keys_that_nothing_reads()
     ensures names { names_of document_rows
         ≡ codes "caps" ∷ codes "capacity" ∷ codes "steps" ∷ [] }
     ensures remarks { remark_names ≡ codes "note" ∷ [] }
+    ensures of_documents { document_names ≡ codes "parties" ∷ codes "note" ∷ [] }
     ensures of_steps { step_names
         ≡ codes "do" ∷ codes "answer" ∷ codes "zf" ∷ codes "note" ∷ [] }
     ensures friendly { map (λ kind. friendly_names kind (object_of []))
@@ -209,7 +216,7 @@ pub fn keys_that_come_twice()
         ∷ codes "a key that is long or not plain is no key here"
         ∷ codes "\"do\" comes twice" ∷ [] }
     ensures object { object_texts (codes "capacity" ∷ codes "capacity" ∷ [])
-        (object_of ((codes "a\n", null) ∷ right_document)) document_rows
+        (object_of ((codes "a\n", null) ∷ right_document)) document_rows []
         ≡ codes "a key that is long or not plain is no key here"
         ∷ codes "\"capacity\" comes twice" ∷ [] }
     ensures no_kind { step_texts (codes "a" ∷ codes "a" ∷ [])

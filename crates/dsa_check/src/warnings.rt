@@ -56,6 +56,9 @@ const NAME: Field = Field {
 // The key of a remark, which any object may have.
 const REMARK_NAMES: [&str; 1] = ["note"];
 
+// The keys of a document beside those that a run reads: the parties of a search, and a remark.
+const DOCUMENT_NAMES: [&str; 2] = ["parties", "note"];
+
 // The keys of a step beside those of its kind.
 const STEP_NAMES: [&str; 4] = ["do", "answer", "zf", "note"];
 
@@ -383,6 +386,7 @@ fn warn_of_keys(
     part: ScenarioFault,
     object: &Value,
     fields: &[Field],
+    more: &[&'static str],
     written: Option<&Written<'_>>,
     warnings: &mut Vec<Finding>,
 ) -> Result<(), AllocError>
@@ -390,12 +394,12 @@ fn warn_of_keys(
         (Warns warnings.old.items warnings.new.items
         (warned_in part None
         (object_texts (keys_written (option_map (λ v. value_view v.now) written.entry))
-        (view object.now) (map row_of_field fields.now)))) }
+        (view object.now) (map row_of_field fields.now) (map (λ name. name.now) more.now)))) }
     ensures placed { OnOk result
         (AppendsAll (IsOfPart part) warnings.old.items warnings.new.items) }
 {
     let mut reasons = Vec::new(alloc);
-    add_strays(alloc, object, fields, &REMARK_NAMES, &mut reasons)?;
+    add_strays(alloc, object, fields, more, &mut reasons)?;
     add_twice(alloc, written, &mut reasons)?;
     if !reasons.is_empty() {
         warnings.push(whole(part, reasons))?;
@@ -419,8 +423,8 @@ fn warn_of_caps(
 {
     match document.get("caps") {
         Some(caps) => {
-            let there = caps_written(written);
-            warn_of_keys(alloc, ScenarioFault::BadCaps, caps, &CAPS, there, warnings)
+            let (part, there) = (ScenarioFault::BadCaps, caps_written(written));
+            warn_of_keys(alloc, part, caps, &CAPS, &REMARK_NAMES, there, warnings)
         }
         None => Ok(()),
     }
@@ -441,8 +445,15 @@ pub fn warnings_in(
         (λ warnings. AllByRecursion (HasPlace bytes.now (view document.now)) warnings.items) }
 {
     let mut warnings = Vec::new(alloc);
-    let part = ScenarioFault::BadDocument;
-    warn_of_keys(alloc, part, document, &DOCUMENT, written, &mut warnings)?;
+    warn_of_keys(
+        alloc,
+        ScenarioFault::BadDocument,
+        document,
+        &DOCUMENT,
+        &DOCUMENT_NAMES,
+        written,
+        &mut warnings,
+    )?;
     warn_of_caps(alloc, document, written, &mut warnings)?;
     warn_of_items(alloc, bytes, items_of(document), written, &mut warnings)?;
     Ok(warnings)

@@ -4,8 +4,9 @@ use Rattle.std.proofs.Common.{None, codes, refl, ap, subst, unwrap_or}
 use Rattle.std.proofs.lemmas.Bool.{eqb-true, leb-true, le-ltb}
 use Rattle.std.specs.{Prelude.{eqb, leb, ltb}, Str.Parse.{digits_value, without_leading_plus}}
 use Rattle.clap.specs.Walk.{Row, Text, one_of}
+use Rattle.dsa_explore.specs.declared.search.Bounds.{Bounds}
 use Rattle.dsa_cli.specs.declared.options.Workload.{Workload}
-use Rattle.dsa_cli.specs.{CommandLine.{AreNumbersOf, IsNumberOf}, Threads.{IsInRange}}
+use Rattle.dsa_cli.specs.{CommandLine.{AreBoundsOf, AreNumbersOf, IsNumberOf}, Threads.{IsInRange}}
 
 first : (x y : Bool) → (x && y) ≡ true → x ≡ true
 first true y e = refl
@@ -81,6 +82,14 @@ said_numbers rows load clients engines each turns size threshold slots buffers =
   threshold = λ text has numeral least most. threshold ∙ ap number_in has;
   slots = λ text has numeral least most. slots ∙ ap number_in has;
   buffers = λ text has numeral least most. buffers ∙ ap number_in has;
+}
+
+-- bounds are those that the texts of options say
+pub said_bounds : (rows : List Row) (bounds : Bounds) → bounds.states ≡ number_in (one_of (codes "states") rows)
+    → bounds.key_bytes ≡ number_in (one_of (codes "key-bytes") rows) → AreBoundsOf rows bounds
+said_bounds rows bounds states key_bytes = record {
+  states = λ text has numeral least most. states ∙ ap number_in has;
+  key_bytes = λ text has numeral least most. key_bytes ∙ ap number_in has;
 }
 
 -- whether n will do for an option with this text: it says n, or no number from `least` to `most`, or there is none

@@ -88,6 +88,9 @@ no_report_of found (Answer word) (report.Conform conformance written) wrong by =
 no_report_of found (Answer word) report.Expand wrong by =
     let both : codes "explain" ≡ codes "expand" = sym wrong.0 ∙ by in
     cc
+no_report_of found (Answer word) (report.Explore exploring) wrong by =
+    let both : codes "explain" ≡ codes "explore" = sym wrong.0 ∙ by.0 in
+    omega (arith, ap (λ (t : Text). get_or t 4 0) both)
 no_report_of found (Range text) (report.Check check) wrong by = omega (arith, same_first (sym wrong.0 ∙ by.0))
 no_report_of found (Range text) (report.Explain selection run) wrong by = omega (arith, same_first (sym wrong.0 ∙ by.0))
 no_report_of found (Range text) (report.Trace form run) wrong by = omega (arith, same_first (sym wrong.0 ∙ by.0))
@@ -100,6 +103,7 @@ no_report_of found (Range text) (report.Draw drawing run) wrong by =
 no_report_of found (Range text) (report.Conform conformance written) wrong by =
     omega (arith, same_first (sym wrong.0 ∙ by.0))
 no_report_of found (Range text) report.Expand wrong by = omega (arith, same_first (sym wrong.0 ∙ by))
+no_report_of found (Range text) (report.Explore exploring) wrong by = omega (arith, same_first (sym wrong.0 ∙ by.0))
 
 -- what the words name, where a value is wrong
 no_other_name : (found : Text × List Row) (value : WrongValue) (name : Text) → 114 < get_or name 0 0
@@ -152,6 +156,7 @@ other_name found report.Count by none same = omega (arith, same_second (sym by �
 other_name found (report.Draw drawing run) by none same = omega (arith, same_first (sym by.0 ∙ same))
 other_name found (report.Conform conformance written) by none same = omega (arith, same_second (sym by.0 ∙ same))
 other_name found report.Expand by none same = omega (arith, same_first (sym by ∙ same))
+other_name found (report.Explore exploring) by none same = omega (arith, same_first (sym by.0 ∙ same))
 
 -- they name it whatever their matches are
 command : (words : List Text) (rows : List Row) → NameThreads words rows → command_in words ≡ Some (codes "threads")

@@ -23,7 +23,8 @@ letters word (inr (inr (inl trace))) = inr (same_first trace, same_second trace)
 letters word (inr (inr (inr (inl count)))) = inl (omega (arith, same_first count))
 letters word (inr (inr (inr (inr (inl draw))))) = inl (omega (arith, same_first draw))
 letters word (inr (inr (inr (inr (inr (inl conform)))))) = inl (omega (arith, same_first conform))
-letters word (inr (inr (inr (inr (inr (inr expand)))))) = inl (omega (arith, same_first expand))
+letters word (inr (inr (inr (inr (inr (inr (inl expand))))))) = inl (omega (arith, same_first expand))
+letters word (inr (inr (inr (inr (inr (inr (inr explore))))))) = inl (omega (arith, same_first explore))
 
 -- a word that begins with a letter from `h` to `s` is none of them, and none that begins with `th`
 pub no_report : (word : List ℕ) → 103 < get_or word 0 0 → get_or word 0 0 < 116 → IsReportName word → ⊥

@@ -23,6 +23,7 @@ use Rattle.dsa_check.specs.declared.checking.CheckForm.TheVariants.{Lines, Sourc
 use Rattle.dsa_conform.specs.declared.rendering.Conformance.{Conformance}
 use Rattle.dsa_draw.specs.{declared.range.StepRange.{StepRange}, Ranges.{all_steps, range_of_text}}
 use Rattle.dsa_chosen.specs.{declared.selection.Selection.{Selection}, Words.{answer_words, unknown_word}}
+use Rattle.dsa_explore.specs.declared.search.Bounds.{Bounds}
 use Rattle.dsa_serve.specs.Dialogue.{IsAllAnswered, IsLate, IsStopped}
 use Rattle.dsa_cli.specs.Reports.{IsReported, IsReportCutShort, IsReportBegun}
 use Rattle.dsa_cli.specs.declared.reports.{Report.{Report}, Run.{Run, TheVariants.{Own, Seen}}}
@@ -82,6 +83,11 @@ conform_app = command_app (codes "conform") (flag_rule (codes "all") ∷ flag_ru
 abbrev pub serve_app : App
 serve_app = command_app (codes "serve") (flag_rule (codes "friendly") ∷ [])
 
+abbrev pub explore_app : App
+explore_app = command_app (codes "explore") (
+    default_rule (codes "states") 1 16_777_216 (codes "100000") ∷
+    default_rule (codes "key-bytes") 1 65_536 (codes "256") ∷ [])
+
 abbrev pub check_app : App
 check_app = command_app (codes "check") (
     flag_rule (codes "json") ∷ flag_rule (codes "source") ∷ flag_rule (codes "color") ∷
@@ -95,7 +101,7 @@ top_app = on_top (λ top. record top { no_binary_name = true; has_version = true
 abbrev pub program_app : App
 program_app = fold (λ program command. with_subcommand program command.top) top_app (
     check_app ∷ explain_app ∷ trace_app ∷ command_app (codes "count") [] ∷ draw_app ∷ conform_app ∷
-    command_app (codes "expand") [] ∷ serve_app ∷ threads_app ∷ [])
+    command_app (codes "expand") [] ∷ explore_app ∷ serve_app ∷ threads_app ∷ [])
 
 -- what clap finds wrong with the words, if anything; to ask for help counts too
 abbrev pub faults_of_words : List Text → Kinds
@@ -226,6 +232,11 @@ pub record IsSelectionOf (rows : List Row) (selection : Selection) : Type 0 wher
   pub answers : option_map (λ answers. answers.text.now) selection.answers ≡ first_of (codes "only") rows
   pub known : unknown_answer rows ≡ None
 
+-- the bounds of a search are those that the options of `explore` say
+pub record AreBoundsOf (rows : List Row) (bounds : Bounds) : Type 0 where
+  pub states : IsNumberOf rows (codes "states") 1 16_777_216 bounds.states
+  pub key_bytes : IsNumberOf rows (codes "key-bytes") 1 65_536 bounds.key_bytes
+
 -- the command with these matches asks for the report (profile)
 abbrev pub IsAskedBy : Text × List Row → Report → Type 0
 IsAskedBy found (report.Check check) = (found.0 ≡ codes "check") × IsCheckOf found.1 check
@@ -240,12 +251,14 @@ IsAskedBy found (report.Draw drawing run) =
 IsAskedBy found (report.Conform conformance written) =
     (found.0 ≡ codes "conform") × IsConformanceChosen found.1 conformance × IsWrittenIn found.1 written
 IsAskedBy found report.Expand = found.0 ≡ codes "expand"
+IsAskedBy found (report.Explore exploring) = (found.0 ≡ codes "explore") × AreBoundsOf found.1 exploring.bounds
 
 -- the command is one that asks for a report
 abbrev pub IsReportName : Text → Type 0
 IsReportName name =
     (name ≡ codes "check") ⊎ (name ≡ codes "explain") ⊎ (name ≡ codes "trace") ⊎ (name ≡ codes "count")
     ⊎ (name ≡ codes "draw") ⊎ (name ≡ codes "conform") ⊎ (name ≡ codes "expand")
+    ⊎ (name ≡ codes "explore")
 
 -- the words name a command that asks for a report, with these matches, and nothing is wrong with them
 abbrev pub NameReport : List Text → Text × List Row → Type 0

@@ -21,7 +21,9 @@ use Rattle.dsa_conform.specs.declared.rendering.Conformance.{Conformance}
 use Rattle.dsa_draw.specs.{declared.run.Drawing.{Drawing}, Ranges.{all_steps}}
 use Rattle.clap.specs.{Walk.{Row, Text, one_of}, Simple.{subcommand_of}}
 use Rattle.clap.specs.declared.builder.value_parser.Reading.TheVariants.{AsWritten}
+use Rattle.dsa_explore.specs.declared.search.Bounds.{Bounds}
 use Rattle.dsa_cli.specs.{declared.options.Workload.{Workload}, CommandLine.{program_app}}
+use Rattle.dsa_cli.specs.declared.reports.Report.{Report, TheVariants.{Explore}}
 use Rattle.dsa_cli.specs.Threads.{setup_steps, submission_of}
 
 -- the bytes of a Move of 4096 bytes
@@ -57,6 +59,13 @@ load clients engines each turns = record {
 abbrev pub sized : ℕ → ℕ → ℕ → ℕ → Workload
 sized size threshold slots buffers =
     record (load 2 3 5 7) { size = size; threshold = threshold; slots = slots; buffers = buffers }
+
+-- bounds of a search, and the search
+abbrev pub bounds_of : ℕ → ℕ → Bounds
+bounds_of states key_bytes = record { states = states; key_bytes = key_bytes }
+
+abbrev pub explore_within : ℕ → ℕ → Report
+explore_within states key_bytes = Explore (record { bounds = bounds_of states key_bytes })
 
 -- ---- a run of one client and two engines
 
@@ -115,6 +124,10 @@ chosen_words = codes "explain" ∷ codes "--name" ∷ codes "3" ∷ codes "--cli
 abbrev pub lines_of_one_entry : Selection
 lines_of_one_entry = record (of_client_and_answers 2 (codes "retry,idle")) { name = Some 3 }
 
+-- the command `explore` with one option
+abbrev pub explore_with : Text → Text → List Text
+explore_with option value = codes "explore" ∷ option ∷ value ∷ []
+
 -- a command with the option of the run that was seen
 abbrev pub words_with_seen : Text → List Text
 words_with_seen command = command ∷ codes "--seen" ∷ []
@@ -140,6 +153,10 @@ lent_text text = record { ref_ptr = (0, 0); now = text }
 abbrev pub explain_rows : Text → Text → Text → Text → List Row
 explain_rows name client only seen = option_row (codes "name") name ++ option_row (codes "client") client
     ++ option_row (codes "only") only ++ option_row (codes "seen") seen
+
+-- the matches of `explore` with these values of its options
+abbrev pub explore_rows : Text → Text → List Row
+explore_rows states key_bytes = option_row (codes "states") states ++ option_row (codes "key-bytes") key_bytes
 
 -- the value of the option `--name`, which has none, where `given` alone is given
 abbrev pub value_of : Text → Text → Text

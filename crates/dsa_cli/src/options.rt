@@ -9,9 +9,9 @@ ghost use Rattle.clap.specs.Simple.{new_app, with_rule, subcommand_rows_of};
 ghost use Rattle.clap.specs.declared.builder.command.Command.TheViews.{out-Command as fields_of};
 ghost use Rattle.dsa_cli.specs.Threads.{IsInRange, IsAskedInRange};
 ghost use Rattle.dsa_cli.specs.CommandLine.{text_rule, number_rule, default_rule, flag_rule};
-ghost use Rattle.dsa_cli.specs.CommandLine.{check_app, explain_app, trace_app, draw_app};
+ghost use Rattle.dsa_cli.specs.CommandLine.{check_app, explain_app, trace_app, draw_app, explore_app};
 ghost use Rattle.dsa_cli.specs.CommandLine.{conform_app, serve_app, threads_app, top_app, program_app};
-ghost use Rattle.dsa_cli.specs.CommandLine.{IsNumberOf, IsNumberGiven, AreNumbersOf};
+ghost use Rattle.dsa_cli.specs.CommandLine.{IsNumberOf, IsNumberGiven, AreNumbersOf, AreBoundsOf};
 ghost use Rattle.dsa_cli.specs.CommandLine.{IsChosenBy, IsFormOf, IsGivenElse, IsRunChosen, IsCheckOf};
 ghost use Rattle.dsa_cli.specs.CommandLine.{IsAskedBy, IsReportName, AsksBy, AsksFor};
 ghost use Rattle.dsa_cli.specs.CommandLine.{IsCheckFormOf, IsConformanceChosen, IsWrittenIn};
@@ -25,6 +25,7 @@ use dsa_check::{Check, CheckForm};
 use dsa_chosen::{AnswerWords, Selection};
 use dsa_conform::Conformance;
 use dsa_draw::{Drawing, StepRange};
+use dsa_exploration::{Bounds, Exploring};
 use dsa_release::version_text;
 use dsa_trace::Trace;
 use std::alloc::{AllocError, Global};
@@ -96,6 +97,10 @@ const MOST_SLOTS: u32 = 16;
 const LEAST_BUFFERS: u32 = 4;
 
 const MOST_BUFFERS: u32 = 255;
+
+const MOST_STATES: u32 = 16_777_216;
+
+const MOST_KEY_BYTES: u32 = 65_536;
 
 const SCENARIO_HELP: &str = "\
 Without a command: what does the device answer to each step? Reads one scenario document
@@ -170,6 +175,18 @@ lists, and entries may have names of your own. A scenario document stays as it i
 
 Exit status: 0 done, 1 a fault (its line goes to standard error), 2 a usage error.";
 
+const EXPLORE_HELP: &str = "\
+Reads one scenario document (JSON) with \"parties\" from standard input, makes its steps on a
+model of a device, and then searches every order of the parties' steps. It writes a line for
+each entry of the clients, with each answer and each end that it may have, and a line for
+each step of the administrators, with each answer that it may get. Each has the fewest steps
+that lead to it. The last line says how many states were stored and steps tried, and whether
+the search is complete. Memory is taken at once: about --states times (--key-bytes + 40)
+bytes.
+
+Exit status: 0 the search is complete, 1 it met its bounds, or a fault (its line goes to
+standard error), 2 a usage error.";
+
 const SERVE_HELP: &str = "\
 Reads one scenario document (JSON), in one line or several, from standard input, and then a
 step from each line. Each step is made as it comes, on one model of a device, and answered
@@ -214,6 +231,10 @@ const NAME: &str = "Show the steps about the entry of this name, and its fate";
 const CLIENT: &str = "Show the steps of this client";
 
 const ONLY: &str = "Show the steps with an answer that begins with one of these words";
+
+const STATES: &str = "How many states may be stored, 1 to 16777216";
+
+const KEY_BYTES: &str = "How many bytes the key of a state may have, 1 to 65536";
 
 const STEPS: &str = "Draw the steps from A to B, as 3..9, 3.. or ..9";
 
@@ -423,6 +444,24 @@ fn conform_command<'a>(alloc: Global) -> Result<Command<'a>, AllocError>
     )
 }
 
+fn explore_command<'a>(alloc: Global) -> Result<Command<'a>, AllocError>
+    ensures app { IfOk result (λ c. app_of c ≡ explore_app) }
+    ensures local { IfOk result (λ c. (fields_of c).has_globals ≡ false) }
+{
+    let about = "What may come of the parties, in every order of their steps?";
+    let command = plain_command(alloc, "explore", about, EXPLORE_HELP);
+    let command = with_number(alloc, command, "states", 1, MOST_STATES, "100000", STATES)?;
+    with_number(
+        alloc,
+        command,
+        "key-bytes",
+        1,
+        MOST_KEY_BYTES,
+        "256",
+        KEY_BYTES,
+    )
+}
+
 fn serve_command<'a>(alloc: Global) -> Result<Command<'a>, AllocError>
     ensures app { IfOk result (λ c. app_of c ≡ serve_app) }
     ensures local { IfOk result (λ c. (fields_of c).has_globals ≡ false) }
@@ -446,6 +485,7 @@ fn command_line<'a>(alloc: Global) -> Result<Command<'a>, AllocError>
         .subcommand(draw_command(alloc)?)?
         .subcommand(conform_command(alloc)?)?
         .subcommand(plain_command(alloc, "expand", expand, EXPAND_HELP))?
+        .subcommand(explore_command(alloc)?)?
         .subcommand(serve_command(alloc)?)?
         .subcommand(threads_command(alloc)?)
 }
@@ -652,6 +692,16 @@ fn explanation_asked<'a>(given: &ArgMatches<'a>) -> Asked<'a>
     }
 }
 
+// The bounds that the options of `explore` say.
+fn bounds_of(given: &ArgMatches<'_>) -> Bounds
+    ensures { AreBoundsOf (rows_of (found_of given.now)) result }
+{
+    Bounds {
+        states: number_of(given, "states", 1, MOST_STATES),
+        key_bytes: number_of(given, "key-bytes", 1, MOST_KEY_BYTES),
+    }
+}
+
 // Whether the words name this command.
 fn is_named(matches: &ArgMatches<'_>, name: &str) -> bool
     ensures named { result ≡ true
@@ -683,6 +733,10 @@ fn report_asked<'a>(matches: &ArgMatches<'a>) -> Option<Asked<'a>>
     }
     if let Some(given) = matches.subcommand_matches("draw") {
         return Some(drawing_asked(given));
+    }
+    if let Some(given) = matches.subcommand_matches("explore") {
+        let bounds = bounds_of(given);
+        return Some(Asked::Report(Report::Explore(Exploring { bounds })));
     }
     if is_named(matches, "count") {
         return Some(Asked::Report(Report::Count));

@@ -13,6 +13,7 @@ use dsa_chrome::ChromeTrace;
 use dsa_conform::{AsSeen, Conformance};
 use dsa_draw::Drawing;
 use dsa_expand::{Expansion, Friendly};
+use dsa_exploration::Exploring;
 use dsa_named::{RenderNamed, WithNames};
 use dsa_named_lines::NamedLines;
 use dsa_named_seen::SeenWithNames;
@@ -70,6 +71,8 @@ pub enum Report<'a> {
     Conform(Conformance, Written),
     /// Its strict form.
     Expand,
+    /// What may come of its parties, in every order of their steps.
+    Explore(Exploring),
 }
 
 // What `what` makes of this run of the document in these bytes.
@@ -114,6 +117,7 @@ impl Render for Report<'_> {
             Report::Conform(inner, Written::Strict) => inner.render(alloc, bytes),
             Report::Conform(inner, Written::Friendly) => Friendly { inner }.render(alloc, bytes),
             Report::Expand => Expansion.render(alloc, bytes),
+            Report::Explore(exploring) => exploring.render(alloc, bytes),
         }
     }
 }

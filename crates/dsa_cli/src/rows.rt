@@ -48,6 +48,7 @@ ghost use Rattle.dsa_trace.specs.declared.form.Trace.{Trace as TraceForm};
 ghost use Rattle.dsa_trace.specs.declared.form.Trace.TheVariants.{Table, Wide, Changes, Json};
 ghost use Rattle.dsa_scenario.specs.declared.faults.ScenarioFault.TheVariants.{BadCaps, Read};
 ghost use Rattle.dsa_scenario.specs.declared.faults.ScenarioFault.TheVariants.{BadStep};
+ghost use Rattle.dsa_scenario.specs.declared.faults.ScenarioFault.TheVariants.{Incomplete};
 ghost use Rattle.dsa_scenario.specs.declared.faults.ScenarioFault.TheVariants.{TooLong, Write};
 ghost use Rattle.dsa_scenario.specs.declared.faults.ScenarioFault.TheVariants.{OutOfMemory};
 ghost use Rattle.dsa_scenario.specs.declared.watched.WatchedWriter.{WatchedWriter};
@@ -71,6 +72,7 @@ ghost use Rattle.dsa_chrome.specs.Traces.{IsChromeTrace};
 ghost use Rattle.dsa_count.specs.Totals.{AreTotalsOfDocument};
 ghost use Rattle.dsa_draw.specs.{Drawings.{IsDrawingOf}, Ranges.{all_steps}};
 ghost use Rattle.dsa_expand.specs.Friendly.{IsMadeOfFriendly};
+ghost use Rattle.dsa_exploration.specs.Exploration.{IsExplorationOf};
 ghost use Rattle.dsa_cli.specs.Reports.{IsReportBegun, IsReportCutShort, IsReportOf, IsReported};
 ghost use Rattle.dsa_cli.specs.Reports.{IsTooLongCut, IsTooLongTold, streamed_form};
 ghost use Rattle.dsa_cli.specs.Reports.{text_if_too_long};
@@ -95,7 +97,7 @@ ghost use Rattle.dsa_cli.specs.CommandLine.{NameNothing, has_friendly_form};
 ghost use Rattle.dsa_cli.specs.CommandLine.{NameReport, NameServe, NameThreads, command_in};
 ghost use Rattle.dsa_cli.specs.CommandLine.{faults_of_words, check_app, conform_app, draw_app};
 ghost use Rattle.dsa_cli.specs.CommandLine.{explain_app, program_app, serve_app, threads_app};
-ghost use Rattle.dsa_cli.specs.CommandLine.{trace_app};
+ghost use Rattle.dsa_cli.specs.CommandLine.{trace_app, explore_app, AreBoundsOf};
 ghost use Rattle.clap.specs.declared.builder.value_parser.ValueParser.TheVariants.{Signed};
 ghost use Rattle.dsa_cli.specs.Worked.{page_move_bytes, move_under, load, sized, threads_with};
 ghost use Rattle.dsa_cli.specs.Worked.{option_row, trace_rows, two_retries};
@@ -104,7 +106,8 @@ ghost use Rattle.dsa_cli.specs.Worked.{engine_seats_after, value_in, json_trace,
 ghost use Rattle.dsa_cli.specs.Worked.{words_with_seen, strict_words, explain_with};
 ghost use Rattle.dsa_cli.specs.Worked.{explain_rows, chosen_words, lines_of_one_entry, lent_text};
 ghost use Rattle.dsa_cli.specs.Worked.{check_in, check_rows, comparison, conform_rows, draw_rows, drawing_of};
-ghost use Rattle.dsa_cli.specs.Worked.{whole_drawing};
+ghost use Rattle.dsa_cli.specs.Worked.{whole_drawing, explore_rows, explore_with};
+ghost use Rattle.dsa_cli.specs.Worked.{explore_within, bounds_of};
 
 /// What the words may be: none, or the command `threads` with its options.
 #[tactic(auto, unfolding(clap::proofs::OnLiterals::clap_on_literals))]
@@ -138,6 +141,10 @@ pub fn words_understood()
     ensures count { faults_of_words (codes "count" ∷ []) ≡ [] }
     ensures expand { faults_of_words (codes "expand" ∷ []) ≡ [] }
     ensures expands { command_in (codes "expand" ∷ []) ≡ Some (codes "expand") }
+    ensures explore { faults_of_words (codes "explore" ∷ []) ≡ [] }
+    ensures explores { command_in (codes "explore" ∷ []) ≡ Some (codes "explore") }
+    ensures explore_with_option { faults_of_words (explore_with (codes "--clients") (codes "2"))
+        ≡ UnknownArgument ∷ [] }
     ensures counts { command_in (codes "count" ∷ []) ≡ Some (codes "count") }
     ensures draw { faults_of_words (codes "draw" ∷ []) ≡ [] }
     ensures drawing { command_in (codes "draw" ∷ []) ≡ Some (codes "draw") }
@@ -167,8 +174,8 @@ pub fn words_understood()
 pub fn options_of_commands()
     ensures names { map {B = Text × List Text}
         (λ command. (command.top.name, map (λ option. option.id) command.top.rules))
-        (check_app ∷ explain_app ∷ trace_app ∷ draw_app ∷ conform_app ∷ serve_app ∷ threads_app
-        ∷ [])
+        (check_app ∷ explain_app ∷ trace_app ∷ draw_app ∷ conform_app ∷ explore_app ∷ serve_app
+        ∷ threads_app ∷ [])
         ≡ (codes "check", codes "json" ∷ codes "source" ∷ codes "color" ∷ codes "strict" ∷ [])
         ∷ (codes "explain", codes "name" ∷ codes "client" ∷ codes "only" ∷ codes "seen" ∷ [])
         ∷ (
@@ -177,6 +184,7 @@ pub fn options_of_commands()
         )
         ∷ (codes "draw", codes "steps" ∷ codes "seen" ∷ [])
         ∷ (codes "conform", codes "all" ∷ codes "friendly" ∷ [])
+        ∷ (codes "explore", codes "states" ∷ codes "key-bytes" ∷ [])
         ∷ (codes "serve", codes "friendly" ∷ [])
         ∷ (
           codes "threads",
@@ -186,6 +194,10 @@ pub fn options_of_commands()
     ensures explain { map (λ option. option.parser) explain_app.top.rules
         ≡ Some (Signed (pos 0) (pos 4_294_967_295)) ∷ Some (Signed (pos 0) (pos 65_535)) ∷ None
         ∷ None ∷ [] }
+    ensures explore { map (λ option. option.parser) explore_app.top.rules
+        ≡ Some (Signed (pos 1) (pos 16_777_216)) ∷ Some (Signed (pos 1) (pos 65_536)) ∷ [] }
+    ensures bounds { map (λ option. option.defaults) explore_app.top.rules
+        ≡ (codes "100000" ∷ []) ∷ (codes "256" ∷ []) ∷ [] }
     ensures threads { map (λ option. option.parser) threads_app.top.rules
         ≡ Some (Signed (pos 1) (pos 16)) ∷ Some (Signed (pos 1) (pos 8))
         ∷ Some (Signed (pos 1) (pos 1_000)) ∷ Some (Signed (pos 1) (pos 40_000))
@@ -200,7 +212,8 @@ pub fn options_of_commands()
         ≡ Some (codes "steps") ∷ Some (codes "seen") ∷ [] }
     ensures commands { map (λ command. command.name) program_app.subs
         ≡ codes "check" ∷ codes "explain" ∷ codes "trace" ∷ codes "count" ∷ codes "draw"
-        ∷ codes "conform" ∷ codes "expand" ∷ codes "serve" ∷ codes "threads" ∷ [] }
+        ∷ codes "conform" ∷ codes "expand" ∷ codes "explore" ∷ codes "serve" ∷ codes "threads"
+        ∷ [] }
     ensures version { program_app.top.has_version ≡ true }
 {}
 
@@ -224,6 +237,12 @@ pub fn option_values()
     ensures not_chosen { map (value_in (codes "explain" ∷ []))
         (codes "name" ∷ codes "client" ∷ codes "only" ∷ codes "seen" ∷ [])
         ≡ None ∷ None ∷ None ∷ Some (codes "false") ∷ [] }
+    ensures bounds { map (value_in (codes "explore" ∷ []))
+        (codes "states" ∷ codes "key-bytes" ∷ [])
+        ≡ Some (codes "100000") ∷ Some (codes "256") ∷ [] }
+    ensures given_bounds { map (value_in (explore_with (codes "--states") (codes "7")))
+        (codes "states" ∷ codes "key-bytes" ∷ [])
+        ≡ Some (codes "7") ∷ Some (codes "256") ∷ [] }
     ensures other { value_in (threads_with (codes "--each") (codes "7")) (codes "turns")
         ≡ Some (codes "10000") }
 {}
@@ -254,6 +273,12 @@ pub fn option_bounds()
         ≡ (ValueValidation ∷ []) ∷ [] ∷ [] ∷ (ValueValidation ∷ []) ∷ [] }
     ensures buffers { map (λ n. faults_of_words (threads_with (codes "--buffers") n))
         (codes "3" ∷ codes "4" ∷ codes "255" ∷ codes "256" ∷ [])
+        ≡ (ValueValidation ∷ []) ∷ [] ∷ [] ∷ (ValueValidation ∷ []) ∷ [] }
+    ensures states { map (λ n. faults_of_words (explore_with (codes "--states") n))
+        (codes "0" ∷ codes "1" ∷ codes "16777216" ∷ codes "16777217" ∷ [])
+        ≡ (ValueValidation ∷ []) ∷ [] ∷ [] ∷ (ValueValidation ∷ []) ∷ [] }
+    ensures key_bytes { map (λ n. faults_of_words (explore_with (codes "--key-bytes") n))
+        (codes "0" ∷ codes "1" ∷ codes "65536" ∷ codes "65537" ∷ [])
         ≡ (ValueValidation ∷ []) ∷ [] ∷ [] ∷ (ValueValidation ∷ []) ∷ [] }
     ensures names { map (λ n. faults_of_words (explain_with (codes "--name") n))
         (codes "0" ∷ codes "4294967295" ∷ codes "4294967296" ∷ codes "one" ∷ [])
@@ -560,9 +585,9 @@ pub fn documents_too_long()
     ensures texts { map text_if_too_long
         (Check strict_check ∷ Check (check_in check_form.Json) ∷ Explain all_lines Own
         ∷ Trace Json Own ∷ Chrome Own ∷ Count ∷ Draw whole_drawing Seen
-        ∷ Conform (comparison true) Friendly ∷ Expand ∷ [])
+        ∷ Conform (comparison true) Friendly ∷ Expand ∷ explore_within 3 4 ∷ [])
         ≡ Some (codes "document too long: it has more than 1048576 bytes\n")
-        ∷ Some (too_long_text check_form.Json) ∷ replicate 7 None }
+        ∷ Some (too_long_text check_form.Json) ∷ replicate 8 None }
     ensures told { (bytes : List ℕ) → 1_048_576 < length bytes
         → IsReported (Check plain_check) (Some TooLong) (Some bytes) (Some [])
         (Some (codes "k"))
@@ -591,6 +616,7 @@ pub fn names_of_reports()
     ensures draw { IsReportName (codes "draw") }
     ensures conform { IsReportName (codes "conform") }
     ensures expand { IsReportName (codes "expand") }
+    ensures explore { IsReportName (codes "explore") }
     ensures serve { ¬ IsReportName (codes "serve") }
     ensures asks_check { IsAskedBy (codes "check", check_rows []) (Check plain_check) }
     ensures asks_strict_check { IsAskedBy (codes "check", check_rows (codes "strict"))
@@ -617,6 +643,15 @@ pub fn names_of_reports()
     ensures asks_count { IsAskedBy (codes "count", []) Count }
     ensures asks_expand { IsAskedBy (codes "expand", []) Expand }
     ensures no_expand { ¬ IsAskedBy (codes "expand", []) Count }
+    ensures asks_explore { IsAskedBy (codes "explore", explore_rows (codes "7") (codes "65536"))
+        (explore_within 7 65_536) }
+    ensures no_totals { ¬ IsAskedBy (codes "explore", explore_rows (codes "7") (codes "9")) Count }
+    ensures other_bounds { ¬ IsAskedBy (codes "explore", explore_rows (codes "7") (codes "9"))
+        (explore_within 9 7) }
+    ensures other_key_bytes { ¬ IsAskedBy (codes "explore", explore_rows (codes "7") (codes "9"))
+        (explore_within 7 8) }
+    ensures no_exploration { ¬ IsAskedBy (codes "draw", explore_rows (codes "7") (codes "9"))
+        (explore_within 7 9) }
     ensures asks_draw { IsAskedBy (codes "draw", option_row (codes "seen") (codes "false"))
         (Draw whole_drawing Own) }
     ensures asks_steps { IsAskedBy (codes "draw", draw_rows (codes "3..9") (codes "false"))
@@ -746,6 +781,12 @@ pub fn numbers_of_options()
         × AreNumbersOf (option_row (codes "each") (codes "1001")) (load 2 3 5 7)
         × AreNumbersOf (option_row (codes "turns") (codes "40001")) (load 2 3 5 7)
         × AreNumbersOf (option_row (codes "buffers") (codes "3")) (load 2 3 5 7) }
+    ensures bounds { (states key_bytes : ℕ)
+        → AreBoundsOf (explore_rows (codes "1") (codes "256")) (bounds_of states key_bytes)
+        → (states ≡ 1) × (key_bytes ≡ 256) }
+    ensures most_states { (states : ℕ)
+        → AreBoundsOf (option_row (codes "states") (codes "16777216")) (bounds_of states 7)
+        → states ≡ 16_777_216 }
     ensures all { (rows : List Row) (asked : Workload) → AreNumbersOf rows asked
         → IsNumberOf rows (codes "clients") 1 16 asked.clients
         × IsNumberOf rows (codes "engines") 1 8 asked.engines
@@ -902,6 +943,9 @@ pub fn reports_of_documents()
     ensures seen_drawing { (bytes text : List ℕ)
         → IsReportOf (Draw whole_drawing Seen) bytes (Some (BadStep 7)) text
         → IsUnread bytes 7 × (text ≡ []) }
+    ensures exploration { (bytes text : List ℕ)
+        → IsReportOf (explore_within 3 4) bytes (Some Incomplete) text
+        → IsExplorationOf (bounds_of 3 4) bytes (Some Incomplete) text }
     ensures conformance { (bytes text : List ℕ)
         → IsReportOf (Conform (comparison true) Strict) bytes (Some BadCaps) text
         → IsConformanceOf true bytes (Some BadCaps) text }
@@ -961,6 +1005,13 @@ pub fn asked()
     ensures known_answer { ¬ AsksFor (explain_with (codes "--only") (codes "idle"))
         (WrongValue (Answer (lent_text (codes "idle")))) }
     ensures count { AsksFor (codes "count" ∷ []) (Report Count) }
+    ensures explore { AsksFor (codes "explore" ∷ []) (Report (explore_within 100_000 256)) }
+    ensures few_states { AsksFor (explore_with (codes "--states") (codes "1"))
+        (Report (explore_within 1 256)) }
+    ensures long_keys { AsksFor (explore_with (codes "--key-bytes") (codes "65536"))
+        (Report (explore_within 100_000 65_536)) }
+    ensures other_states { ¬ AsksFor (codes "explore" ∷ []) (Report (explore_within 7 256)) }
+    ensures other_search { ¬ AsksFor (codes "count" ∷ []) (Report (explore_within 100_000 256)) }
     ensures draw { AsksFor (codes "draw" ∷ []) (Report (Draw whole_drawing Own)) }
     ensures seen_draw { AsksFor (words_with_seen (codes "draw"))
         (Report (Draw whole_drawing Seen)) }

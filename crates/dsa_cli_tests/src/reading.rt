@@ -8,7 +8,7 @@ use std::sync::Wait;
 use std::thread::Threads;
 
 /// Each with how the output begins, of a document of one step.
-pub const READERS: [(Words, &str); 15] = [
+pub const READERS: [(Words, &str); 17] = [
     (&[], "nothing\n"),
     (&["--"], "nothing\n"),
     (&["check"], ""),
@@ -22,6 +22,11 @@ pub const READERS: [(Words, &str); 15] = [
     (&["draw", "--steps", "3.."], "<svg "),
     (&["conform"], "conforms"),
     (&["conform", "--all"], "conforms"),
+    (&["explore"], "1 state, "),
+    (
+        &["explore", "--states=1", "--key-bytes", "128"],
+        "1 state, ",
+    ),
     (&["serve"], "nothing\n"),
     (&["serve", "--friendly"], "nothing\n"),
 ];

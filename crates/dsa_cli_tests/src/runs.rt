@@ -15,7 +15,7 @@ pub type Words = &'static [&'static str];
 pub const DOCUMENT: &str = concat!(
     r#"{"caps":{"queues":1,"groups":1,"engines":1,"total_size":1,"read_buffers":4,"#,
     r#""slots":1,"max_batch_shift":1,"max_xfer_shift":0},"capacity":9,"#,
-    r#""steps":[{"do":"poll"}]}"#,
+    r#""steps":[{"do":"poll"}],"parties":{}}"#,
 );
 
 /// The input, the output and the errors of a run.

@@ -8,7 +8,7 @@ use std::process::Abort;
 use std::sync::Wait;
 use std::thread::Threads;
 
-const WRONG: [Words; 32] = [
+const WRONG: [Words; 34] = [
     &["fly"],
     &[""],
     &["--json"],
@@ -25,6 +25,8 @@ const WRONG: [Words; 32] = [
     &["explain", "--client=65536"],
     &["draw", "--steps", "9..3"],
     &["conform", "--wide"],
+    &["explore", "--states", "0"],
+    &["explore", "--key-bytes=65537"],
     &["serve", "serve"],
     &["serve", "--friendly", "--friendly"],
     &["threads", "extra"],
@@ -45,7 +47,7 @@ const WRONG: [Words; 32] = [
 
 // Each with how the output begins. The numbers of `threads` are such that each run has these
 // totals.
-const RIGHT: [(Words, &str); 16] = [
+const RIGHT: [(Words, &str); 17] = [
     (&["--help"], "Runs a model "),
     (&["-h"], "Runs a model "),
     (&["help"], "Runs a model "),
@@ -55,6 +57,7 @@ const RIGHT: [(Words, &str); 16] = [
     (&["trace", "--json", "--help"], "What does the device hold "),
     (&["help", "draw"], "What does the whole run "),
     (&["help", "conform"], "May a device answer "),
+    (&["help", "explore"], "What may come of the parties"),
     (&["serve", "--help"], "What does the device answer "),
     (&["threads", "--help"], "Do the totals balance "),
     (&["threads", "--each", "1", "-h"], "Do the totals balance "),

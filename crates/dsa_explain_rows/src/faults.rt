@@ -1,7 +1,7 @@
 //! Faults of a document in words.
 
 ghost use Rattle.std.specs.Prelude.{◌≡◌, [], ◌∷◌, codes, map};
-ghost use Rattle.dsa_scenario.specs.declared.faults.ScenarioFault.TheVariants.{Read, TooLong, NotJson, BadDocument, BadStep, BadCaps, BadCapacity, Differs, Write, OutOfMemory};
+ghost use Rattle.dsa_scenario.specs.declared.faults.ScenarioFault.TheVariants.{Read, TooLong, NotJson, BadDocument, BadStep, BadCaps, BadCapacity, NoParties, BadParties, BadParty, TooManyParties, BadSetup, Differs, Incomplete, Write, OutOfMemory};
 ghost use Rattle.dsa_scenario.specs.Faults.{fault_line, fault_text};
 
 /// The line of each fault of a document.
@@ -16,7 +16,13 @@ pub fn faults_in_words()
         ∷ BadStep 3
         ∷ BadCaps
         ∷ BadCapacity
+        ∷ NoParties
+        ∷ BadParties
+        ∷ BadParty 12
+        ∷ TooManyParties
+        ∷ BadSetup
         ∷ Differs 4
+        ∷ Incomplete
         ∷ Write
         ∷ OutOfMemory
         ∷ [])
@@ -27,7 +33,13 @@ pub fn faults_in_words()
         ∷ codes "bad step 3"
         ∷ codes "bad caps"
         ∷ codes "bad capacity"
+        ∷ codes "no parties"
+        ∷ codes "bad parties"
+        ∷ codes "bad party 12"
+        ∷ codes "too many parties"
+        ∷ codes "bad set-up"
         ∷ codes "step 4 differs"
+        ∷ codes "search incomplete"
         ∷ codes "write failed"
         ∷ codes "out of memory"
         ∷ [] }

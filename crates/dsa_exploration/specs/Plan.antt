@@ -1,6 +1,7 @@
 -- What a document says to search.
-use Rattle.std.specs.Prelude.{◌≡◌, ℕ, List, [], filter_map, map, Option, Some, None, Result, Ok, Err}
-use Rattle.serde_json.specs.Data.{Data, Items}
+use Rattle.std.specs.Prelude.{◌≡◌, ℕ, List, [], codes, filter_map, map, option_map, Option, Some, None}
+use Rattle.std.specs.Prelude.{Result, Ok, Err}
+use Rattle.serde_json.specs.{Data.{Data, Items}, Find.{get}}
 use Rattle.dsa_regs.specs.declared.Caps.{Caps}
 use Rattle.dsa_book.specs.declared.event.Event.{Event}
 use Rattle.dsa_scenario.specs.declared.actions.{Action.{Action}, BadWord.{BadWord}}
@@ -8,7 +9,7 @@ use Rattle.dsa_scenario.specs.Actions.{action_of}
 use Rattle.dsa_scenario.specs.Document.{head_of, list_of_items, IsJson, IsOpenable}
 use Rattle.dsa_scenario.specs.Run.{event_of}
 use Rattle.dsa_parties.specs.declared.script.Script.{Script}
-use Rattle.dsa_plans.specs.Plans.{parties_said, tables_of}
+use Rattle.dsa_plans.specs.{Plans.{parties_said, tables_of}, PartyLabels.{entry_labels, act_labels}}
 
 -- ---- the set-up
 
@@ -37,9 +38,15 @@ pub record IsRunnable (bytes : List ℕ) (document : Data) (caps : Caps) (action
   pub asked : map action_of (list_of_items items) ≡ map Some actions
   pub opens : IsOpenable caps capacity
 
--- and its parties have this script, and its steps are this set-up (profile)
-pub record IsPlan (bytes : List ℕ) (document : Data) (caps : Caps) (script : Script) (setup : List Event) : Type 0 where
+-- a plain run of the bytes can begin; its steps are this set-up, its parties have this script, and their entries and
+-- acts have these names (profile)
+pub record IsPlan
+    (bytes : List ℕ) (caps : Caps) (script : Script) (setup : List Event) (labels acts : List (List ℕ))
+    : Type 0 where
+  pub document : Data
   pub actions : List Action
   pub runnable : IsRunnable bytes document caps actions
   pub events : setup ≡ setup_events actions
   pub said : parties_said caps.engines document ≡ Ok (tables_of script)
+  pub entries_called : option_map entry_labels (get (codes "parties") document) ≡ Some labels
+  pub acts_called : option_map act_labels (get (codes "parties") document) ≡ Some acts

@@ -1,46 +1,67 @@
 //! From the bytes of a document to the text of its search.
 
-ghost use Rattle.std.specs.Prelude.{◌≡◌, ◌⊎◌, ℕ, List, map, string_bytes, IfErr, IfOk};
+ghost use Rattle.std.specs.Prelude.{◌≡◌, ◌⊎◌, [], ℕ, List, Some, map, string_bytes, IfErr, IfOk};
 ghost use Rattle.serde_json.specs.View.{view};
-ghost use Rattle.dsa_scenario.specs.Document.{IsJson};
-ghost use Rattle.dsa_explore.specs.declared.found.Explored.{Explored};
-ghost use Rattle.dsa_explore.specs.Walked.{IsExplored};
-ghost use Rattle.dsa_exploration.specs.Plan.{setup_events};
-ghost use Rattle.dsa_exploration.specs.Exploration.{IsExploration, IsFaultOfExploration, IsTextOfSearch};
+ghost use Rattle.dsa_scenario.specs.Document.{IsFaultOf, IsJson};
+ghost use Rattle.dsa_tables.specs.Table.{table_text};
+ghost use Rattle.dsa_exploration.specs.Plan.{setup_events, IsPlan};
+ghost use Rattle.dsa_exploration.specs.Exploration.{fault_of_search, IsExplorationOf};
 
-use crate::faults::{ExplorationFault, fault_of_document, fault_of_parties};
 use crate::setup::{read_beginning, setup_events};
 use dsa_explore::{Bounds, Explored, Plan, explore};
 use dsa_plans::{PartyScripts, read_parties};
 use dsa_regs::Caps;
-use dsa_scenario::{Action, parse_json};
+use dsa_scenario::{Action, Render, Rendered, Rendering, ScenarioFault, parse_json};
 use dsa_tables::add_table;
 use serde_json::Value;
 use std::alloc::{AllocError, Global};
 
-/// The table of a search as a text, and whether the search tried all.
-#[derive(Debug, Drop)]
-pub struct Exploration {
-    pub text: String,
-    pub is_complete: bool,
+/// A search of every order of the steps of a document's parties.
+///
+/// The steps of the document are the set-up, which is made before. A word that is no command makes
+/// no event there, and a `finish` calls an entry that is not there. The document has to be one that
+/// can be run.
+///
+/// What such a run is told comes first, and then a fault of the parties. `BadSetup` is told of a
+/// set-up that lets an entry come in. With these three there is no text. `Incomplete` is told after
+/// the table of a search that met its bounds.
+#[derive(Clone, Copy, Debug, PartialEq, Eq)]
+pub struct Exploring {
+    pub bounds: Bounds,
+}
+
+// No text, and this fault.
+fn fault_alone(alloc: Global, fault: ScenarioFault) -> Rendering
+    ensures text { string_bytes result.text ≡ [] }
+    ensures fault { result.fault ≡ Some fault }
+{
+    Rendering {
+        text: String::new(alloc),
+        fault: Some(fault),
+        document: None,
+    }
 }
 
 // The table of a search, with the names that the parties have.
-fn told(
-    alloc: Global,
-    parties: &PartyScripts,
-    explored: &Explored,
-) -> Result<Exploration, AllocError>
-    ensures { IfOk result
-        (IsTextOfSearch (map string_bytes parties.now.labels.items)
+fn told(alloc: Global, parties: &PartyScripts, explored: &Explored) -> Result<Rendering, AllocError>
+    ensures text { IfOk result
+        (λ r. string_bytes r.text
+        ≡ table_text (map string_bytes parties.now.labels.items)
         (map string_bytes parties.now.acts.items) explored.now) }
+    ensures fault { IfOk result (λ r. r.fault ≡ fault_of_search explored.now.is_complete) }
 {
     let mut text = String::new(alloc);
     let labels = parties.labels.as_slice();
     add_table(&mut text, labels, parties.acts.as_slice(), explored)?;
-    Ok(Exploration {
+    let fault = if explored.is_complete {
+        None
+    } else {
+        Some(ScenarioFault::Incomplete)
+    };
+    Ok(Rendering {
         text,
-        is_complete: explored.is_complete,
+        fault,
+        document: None,
     })
 }
 
@@ -51,14 +72,12 @@ fn explore_parties(
     actions: &[Action],
     parties: &PartyScripts,
     bounds: Bounds,
-) -> Result<Exploration, ExplorationFault>
-    ensures ok { IfOk result
-        (λ exploration. (explored : Explored)
-        × IsExplored caps parties.now.script (setup_events actions.now) explored
-        × IsTextOfSearch (map string_bytes parties.now.labels.items)
-        (map string_bytes parties.now.acts.items) explored exploration) }
-    ensures err { IfErr result
-        (λ e. (e ≡ ExplorationFault.OutOfMemory) ⊎ (e ≡ ExplorationFault.Setup)) }
+) -> Result<Rendering, AllocError>
+    ensures { IfOk result
+        (λ r. (bytes : List ℕ)
+        → IsPlan bytes caps parties.now.script (setup_events actions.now)
+        (map string_bytes parties.now.labels.items) (map string_bytes parties.now.acts.items)
+        → IsExplorationOf bounds bytes r.fault (string_bytes r.text)) }
 {
     let setup = setup_events(alloc, actions)?;
     let plan = Plan {
@@ -67,62 +86,42 @@ fn explore_parties(
         setup: setup.as_slice(),
     };
     let Some(explored) = explore(alloc, &plan, bounds)? else {
-        return Err(ExplorationFault::Setup);
+        return Ok(fault_alone(alloc, ScenarioFault::BadSetup));
     };
-    let exploration = told(alloc, parties, &explored)?;
-    Ok(exploration)
+    let rendering = told(alloc, parties, &explored)?;
+    Ok(rendering)
 }
 
 // What comes of the parties of a document.
-fn explore_value(
-    alloc: Global,
-    document: &Value,
-    bounds: Bounds,
-) -> Result<Exploration, ExplorationFault>
+fn explore_value(alloc: Global, document: &Value, bounds: Bounds) -> Rendered
     ensures ok { IfOk result
-        (λ exploration. (bytes : List ℕ)
+        (λ r. (bytes : List ℕ)
         → IsJson bytes (view document.now)
-        → IsExploration bytes exploration) }
+        → IsExplorationOf bounds bytes r.fault (string_bytes r.text)) }
     ensures err { IfErr result
         (λ e. (bytes : List ℕ)
         → IsJson bytes (view document.now)
-        → (e ≡ ExplorationFault.OutOfMemory) ⊎ IsFaultOfExploration bytes e) }
+        → (e ≡ ScenarioFault.OutOfMemory) ⊎ IsFaultOf bytes e) }
 {
-    let begun = match read_beginning(alloc, document) {
-        Ok(begun) => begun,
-        Err(fault) => return Err(fault_of_document(fault)),
-    };
+    let begun = read_beginning(alloc, document)?;
     let parties = match read_parties(alloc, &begun.caps, document) {
         Ok(parties) => parties,
-        Err(fault) => return Err(fault_of_parties(fault)),
+        Err(fault) => match fault {
+            ScenarioFault::OutOfMemory => return Err(fault),
+            _ => return Ok(fault_alone(alloc, fault)),
+        },
     };
-    explore_parties(
-        alloc,
-        begun.caps,
-        begun.actions.as_slice(),
-        &parties,
-        bounds,
-    )
+    let actions = begun.actions.as_slice();
+    let rendering = explore_parties(alloc, begun.caps, actions, &parties, bounds)?;
+    Ok(rendering)
 }
 
-/// Searches every order of the steps of a document's parties, and tells what it found as a table.
-///
-/// The steps of the document are the set-up, which is made before. A word that is no command makes
-/// no event there, and a `finish` calls an entry that is not there. The document has to be one that
-/// can be run. What that run is told comes first, then a fault of the parties, then one of the
-/// set-up. Where that one is told, the document and its parties have no fault; that an entry comes
-/// in, or that the bounds have no room for the first state, is not proved of it.
-pub fn explore_document(
-    alloc: Global,
-    bytes: &[u8],
-    bounds: Bounds,
-) -> Result<Exploration, ExplorationFault>
-    ensures ok { IfOk result (IsExploration bytes.now) }
-    ensures err { IfErr result
-        (λ e. (e ≡ ExplorationFault.OutOfMemory) ⊎ IsFaultOfExploration bytes.now e) }
-{
-    match parse_json(alloc, bytes) {
-        Ok(document) => explore_value(alloc, &document, bounds),
-        Err(fault) => Err(fault_of_document(fault)),
+impl Render for Exploring {
+    ghost is_rendering = { λ exploring bytes fault text.
+        IsExplorationOf exploring.bounds bytes fault text };
+
+    fn render(&self, alloc: Global, bytes: &[u8]) -> Rendered {
+        let document = parse_json(alloc, bytes)?;
+        explore_value(alloc, &document, self.bounds)
     }
 }

@@ -1,17 +1,15 @@
-//! Worked rows: what documents are searched after, and what is told of their faults, each on a
-//! function with nothing to do.
+//! Worked rows: what documents are searched after, and which are not searched, each on a function
+//! with nothing to do.
 
-ghost use Rattle.std.specs.Prelude.{◌≡◌, [], ◌∷◌, codes, map, Some, None};
+ghost use Rattle.std.specs.Prelude.{◌≡◌, [], ◌∷◌, List, ℕ, codes, map, Some, None};
 ghost use Rattle.dsa_desc.specs.declared.Outcome.TheVariants.{PageFault, Success};
 ghost use Rattle.dsa_regs.specs.declared.Command.TheVariants.{EnableDevice, EnableWq};
 ghost use Rattle.dsa_book.specs.declared.event.Event.TheVariants as event;
-ghost use Rattle.dsa_plans.specs.declared.faults.PartiesFault.TheVariants as parties;
 ghost use Rattle.dsa_scenario.specs.declared.actions.Action.TheVariants.{Ask, Finish, Refuse};
-ghost use Rattle.dsa_scenario.specs.declared.faults.ScenarioFault.TheVariants as scenario;
+ghost use Rattle.dsa_scenario.specs.declared.faults.ScenarioFault.TheVariants.{BadParties, BadParty, BadSetup, NoParties};
 ghost use Rattle.dsa_scenario.specs.Worked.{actions_of_a_run, document_text, group_of_a_run, no_command, queue_of_a_run, smallest_caps_text, stepless_text, submission_of_a_run};
-ghost use Rattle.dsa_exploration.specs.declared.faults.ExplorationFault.TheVariants.{Document, Parties, Setup, OutOfMemory};
-ghost use Rattle.dsa_exploration.specs.Exploration.{exploration_fault_text, fault_of_document, fault_of_parties, IsFaultOfExploration};
-ghost use Rattle.dsa_exploration.specs.Plan.{setup_event, setup_events};
+ghost use Rattle.dsa_explore.specs.declared.search.Bounds.{Bounds};
+ghost use Rattle.dsa_exploration.specs.{Exploration.{IsExplorationOf}, Plan.{setup_event, setup_events}, Worked.{text_with_parties}};
 
 /// The events of set-ups. A word that is no command makes none, and a `finish` calls an entry of
 /// cell 0, which is not there.
@@ -35,33 +33,27 @@ pub fn of_set_ups()
         ∷ [] }
 {}
 
-/// Faults, and their sentences. Memory that is refused has one sentence, wherever it is refused.
-#[tactic(auto, unfolding(dsa_scenario::specs::Worked::digits_on_literals))]
-pub fn of_faults()
-    ensures documents { map fault_of_document
-        (scenario.NotJson ∷ scenario.BadStep 12 ∷ scenario.OutOfMemory ∷ [])
-        ≡ Document scenario.NotJson ∷ Document (scenario.BadStep 12) ∷ OutOfMemory ∷ [] }
-    ensures parties { map fault_of_parties
-        (parties.Missing ∷ parties.BadParty 3 ∷ parties.OutOfMemory ∷ [])
-        ≡ Parties parties.Missing ∷ Parties (parties.BadParty 3) ∷ OutOfMemory ∷ [] }
-    ensures sentences { map exploration_fault_text
-        (Document scenario.NotJson ∷ Document (scenario.BadStep 12) ∷ Parties parties.Missing
-        ∷ Parties (parties.BadParty 3) ∷ Setup ∷ OutOfMemory ∷ [])
-        ≡ codes "not JSON" ∷ codes "bad step 12" ∷ codes "no parties" ∷ codes "bad party 3"
-        ∷ codes "bad set-up" ∷ codes "out of memory" ∷ [] }
-{}
-
-/// Documents at fault. A bad step comes before parties that are missing.
+/// Documents that are not searched. A bad step comes before parties that are missing.
 #[tactic(auto, unfolding(serde_json::proofs::OnLiterals::serde_json_on_literals))]
-pub fn of_documents()
-    ensures missing { IsFaultOfExploration (stepless_text (codes "9")) (Parties parties.Missing) }
-    ensures other { IsFaultOfExploration (stepless_text (codes "9")) (Parties parties.BadParties)
+pub fn of_faults()
+    ensures no_parties { (bounds : Bounds) → IsExplorationOf bounds (stepless_text (codes "9"))
+        (Some NoParties) [] }
+    ensures no_text { (bounds : Bounds) → (text : List ℕ)
+        → IsExplorationOf bounds (stepless_text (codes "9")) (Some NoParties) text
+        → text ≡ [] }
+    ensures other { (bounds : Bounds) → (text : List ℕ)
+        → IsExplorationOf bounds (stepless_text (codes "9")) (Some BadParties) text
         → ⊥ }
-    ensures json { IsFaultOfExploration (codes "{") (Document scenario.NotJson) }
-    ensures step { IsFaultOfExploration (document_text smallest_caps_text (codes "9") (codes "1"))
-        (Document (scenario.BadStep 0)) }
-    ensures later { IsFaultOfExploration
-        (document_text smallest_caps_text (codes "9") (codes "1"))
-        (Parties parties.Missing)
+    ensures no_setup { (bounds : Bounds) → (text : List ℕ)
+        → IsExplorationOf bounds (stepless_text (codes "9")) (Some BadSetup) text
         → ⊥ }
+    ensures step { (bounds : Bounds) → (text : List ℕ)
+        → IsExplorationOf bounds (document_text smallest_caps_text (codes "9") (codes "1"))
+        (Some NoParties) text
+        → ⊥ }
+    ensures party { (bounds : Bounds)
+        → IsExplorationOf bounds (text_with_parties (codes "{\"admins\":[{\"steps\":[]},1]}"))
+        (Some (BadParty 1)) [] }
+    ensures no_object { (bounds : Bounds)
+        → IsExplorationOf bounds (text_with_parties (codes "[]")) (Some BadParties) [] }
 {}

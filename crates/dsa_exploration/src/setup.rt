@@ -1,14 +1,13 @@
 //! The set-up of a search: a document's steps.
 
-ghost use Rattle.std.specs.Prelude.{◌≡◌, ◌⊎◌, ◌++◌, [], ◌∷◌, ℕ, List, map, Some, filter_map, IfErr, IfOk, OnOk};
+ghost use Rattle.std.specs.Prelude.{◌≡◌, ◌⊎◌, ◌++◌, [], ◌∷◌, ℕ, List, filter_map, IfErr, IfOk, OnOk};
 ghost use Rattle.serde_json.specs.View.{view};
-ghost use Rattle.dsa_scenario.specs.Actions.{action_of};
-ghost use Rattle.dsa_scenario.specs.Document.{IsFaultOf, IsFirstBad, IsJson};
+ghost use Rattle.dsa_scenario.specs.Document.{IsFaultOf, IsJson};
 ghost use Rattle.dsa_exploration.specs.Plan.{setup_event, setup_events, IsRunnable};
 
 use dsa_book::Event;
 use dsa_regs::Caps;
-use dsa_scenario::{Action, ScenarioFault, check_head, event_for, parse_action, parse_head};
+use dsa_scenario::{Action, ScenarioFault, check_head, event_for, parse_head, read_actions};
 use serde_json::Value;
 use std::alloc::{AllocError, Global};
 
@@ -17,23 +16,6 @@ use std::alloc::{AllocError, Global};
 pub struct Beginning {
     pub caps: Caps,
     pub actions: Vec<Action>,
-}
-
-// What the step objects ask, or the first that is none.
-fn read_actions(alloc: Global, steps: &[Value]) -> Result<Vec<Action>, ScenarioFault>
-    ensures ok { IfOk result
-        (λ actions. map action_of (map view steps.now) ≡ map Some actions.items) }
-    ensures bad { IfErr result
-        (λ e. (e ≡ ScenarioFault.OutOfMemory) ⊎ IsFirstBad (map view steps.now) e) }
-{
-    let mut actions = Vec::new(alloc);
-    for (i, step) in steps.iter().enumerate() {
-        match parse_action(step) {
-            Some(action) => actions.push(action)?,
-            None => return Err(ScenarioFault::BadStep(i as u64)),
-        }
-    }
-    Ok(actions)
 }
 
 /// The caps of a document and what its steps ask, or the fault that a plain run is told.

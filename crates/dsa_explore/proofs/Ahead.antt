@@ -3,22 +3,25 @@ use Rattle.std.proofs.Common.{◌≡◌, ℕ, zero, suc, ◌+◌, ◌<◌, ◌�
 use Rattle.std.proofs.Common.{ap, ◌∙◌, subst, map, length, inl, ⊎_elim, arith}
 use Rattle.std.specs.Prelude.{slice_get}
 use Rattle.std.proofs.lemmas.{Option.{same_Some}, Bool.{cases_eq}}
-use Rattle.dsa_base.specs.Lists.{In}
+use Rattle.dsa_base.{specs.Lists.{In}, proofs.Lists.{In-length}}
 use Rattle.dsa_book.specs.declared.answer.Reply.{Reply}
-use Rattle.dsa_keys.specs.Parties.{World, Stored, world_after}
+use Rattle.dsa_keys.specs.Parties.{World, Stored, HaveEqualKeys, world_after}
 use Rattle.dsa_parties.specs.declared.places.Move.{Move}
-use Rattle.dsa_explore.specs.declared.found.Found.{Found}
+use Rattle.dsa_seen.specs.Table.{HasOneNumberEach}
+use Rattle.dsa_explore.specs.declared.found.{Explored.{Explored}, Found.{Found}}
+use Rattle.dsa_explore.specs.Counted.{AreKeysReached, CountsStates}
 use Rattle.dsa_explore.specs.declared.stored.{Node.{Node}, Search.{Search}, Try.{Try}}
-use Rattle.dsa_explore.specs.{Explored.{AreFindings}, Stored.{node_levels, IsAdvanced}}
+use Rattle.dsa_explore.specs.Stored.{last_level, node_levels, IsAdvanced}
 use Rattle.dsa_explore.specs.Search.{Space, IsFine, IsLawfulSpace, IsWorldTable, IsKeyOf, IsStoredWorld, AreRows}
 use Rattle.dsa_explore.specs.Search.{IsExpanded}
-use Rattle.dsa_explore.specs.Search.{queue_taken_from}
+use Rattle.dsa_explore.specs.Search.{queue_taken_from, AreWritten}
 use Rattle.dsa_explore.proofs.Reached.{reached-none}
-use Rattle.dsa_explore.specs.Trying.{IsSearch, IsAt, IsThere, IsTriedOrStopped, IsExpandedAt}
+use Rattle.dsa_explore.specs.Trying.{IsSearch, HasTable, IsSearched, IsAt, IsThere, IsTriedOrStopped, IsExpandedAt}
 use Rattle.dsa_explore.specs.Trying.{IsExpandedOrStopped}
 use Rattle.dsa_explore.proofs.Growth.{In-get, get-below, own-key, table-on, rows-on}
-use Rattle.dsa_explore.proofs.Tables.{other-keys, expanded-more, all-tried}
-use Rattle.dsa_explore.proofs.Whole.{all-found, rows-found}
+use Rattle.dsa_explore.proofs.Tables.{other-keys, expanded-more, all-tried, whole-closed}
+use Rattle.dsa_explore.proofs.Whole.{all-found, rows-found, whole-of}
+use Rattle.dsa_explore.proofs.Counted.{keys-of-all, keys-of-some}
 
 -- ---- places of lists
 
@@ -41,7 +44,8 @@ pub record IsAhead {P : Type 0} (space : Space P Move) (first : World P) (search
   pub expanded : (i : ℕ) (x : Stored P) → i < number → slice_get table i ≡ Some x
       → IsExpanded space.parties space.asks table search.rows.items (x.level + 1) x.world
 
-module _ {P : Type 0} (space : Space P Move) (lawful : IsLawfulSpace space) (first : World P) where
+module _ {P : Type 0} (space : Space P Move) (lawful : IsLawfulSpace space)
+    (byte-keys : (w v : World P) → HaveEqualKeys w v → space.bytes_of w ≡ space.bytes_of v) (first : World P) where
   -- ---- one world
 
   advanced : (old new : Search) (level : ℕ) (table : List (Stored P)) → IsSearch space first old table
@@ -53,6 +57,8 @@ module _ {P : Type 0} (space : Space P Move) (lawful : IsLawfulSpace space) (fir
             (level + 1) table is.table_is
             a.before;
         rows_are = rows-on space lawful first old.front (level + 1) old.rows.items is.rows_are a.before;
+        written = is.written;
+        within = is.within;
       })
 
   -- the search stands at a world where its front has moved behind it
@@ -79,7 +85,7 @@ module _ {P : Type 0} (space : Space P Move) (lawful : IsLawfulSpace space) (fir
       → In (record { by = move; queue = queue_taken_from reply }) tries)
       → (goes_on : Bool) → IsTriedOrStopped space first mid table number x tries new goes_on
       → IsExpandedOrStopped space first old table number x new goes_on
-  tried-all old mid new table number x v tries is same there covers false rows = rows
+  tried-all old mid new table number x v tries is same there covers false still = still
   tried-all old mid new table number x v tries is same there covers true tried =
       let fine = (is.is_search.table_is.worlds x (In-get table number x is.at)).fine in
       record {
@@ -134,27 +140,69 @@ module _ {P : Type 0} (space : Space P Move) (lawful : IsLawfulSpace space) (fir
   ahead-next search number a below =
       get-at a.table number (omega (arith, below, a.is_search.table_is.count))
 
+  has-some : (search : Search) (table : List (Stored P)) → IsSearch space first search table
+      → 0 < length search.seen.strings
+  has-some search table is = omega (arith, is.table_is.count, In-length _ table is.table_is.begin)
+
   -- at the end all that may come is found
   pub ahead-all : (search : Search) (number : ℕ) → IsFine space first → IsAhead space first search number
-      → length search.seen.strings ≤ number
-      → AreFindings space.parties space.asks first search.rows.items true
+      → length search.seen.strings ≤ number → IsSearched space first search true
   ahead-all search number fine a enough =
-      all-found space lawful first search.seen.strings (node_levels search) search.front number
-      search.rows.items a.table
-      fine a.is_search.table_is a.is_search.rows_are enough a.expanded
+      let is = a.is_search in
+      let whole = whole-of space lawful first search.seen.strings (node_levels search) search.front number
+      search.rows.items a.table is.table_is enough a.expanded in
+      record {
+        findings = all-found space lawful first search.seen.strings (node_levels search) search.front number
+            search.rows.items a.table fine is.table_is is.rows_are enough a.expanded;
+        keys = keys-of-all space lawful byte-keys first search.seen.strings (node_levels search) search.front
+            (last_level (node_levels search)) a.table is.table_is is.written is.within fine
+            (whole-closed space.caps space.parties space.asks space.good lawful.lawful a.table search.rows.items whole);
+        some = has-some search a.table is;
+      }
 
   -- a search that stops has rows that may come
-  pub stopped : (search : Search) → AreRows space first search.front search.rows.items
-      → AreFindings space.parties space.asks first search.rows.items false
-  stopped search is = rows-found space lawful first search.front search.rows.items is
+  pub stopped : (search : Search) → HasTable space first search → IsSearched space first search false
+  stopped search has =
+      let is = has.is_search in
+      record {
+        findings = rows-found space lawful first search.front search.rows.items is.rows_are;
+        keys = keys-of-some space lawful byte-keys first search.seen.strings (node_levels search) search.front
+            (last_level (node_levels search)) has.table is.table_is is.written is.within;
+        some = has-some search has.table is;
+      }
 
-  -- by the number of worlds
-  pub ahead-by : (search : Search) (number : ℕ) (is_complete : Bool) → IsFine space first
-      → IsAhead space first search number
-      → (is_complete ≡ true → length search.seen.strings ≤ number)
-      → AreFindings space.parties space.asks first search.rows.items is_complete
-  ahead-by search number true fine a enough = ahead-all search number fine a (enough refl)
-  ahead-by search number false fine a enough = stopped search a.is_search.rows_are
+  pub ahead-stops : (search : Search) (number : ℕ) → IsAhead space first search number
+      → IsSearched space first search false
+  ahead-stops search number a = stopped search (record { table = a.table; is_search = a.is_search })
+
+  -- the states that a search counted
+  pub counted : (explored : Explored) (search : Search) (is_complete : Bool)
+      → IsSearched space first search is_complete → explored.states ≡ length search.seen.strings
+      → HasOneNumberEach search.seen.strings → explored.depth ≡ last_level (node_levels search)
+      → explored.is_complete ≡ is_complete → CountsStates space.parties space.bytes_of first explored
+  counted explored search is_complete s states once depth complete = record {
+    keys = search.seen.strings;
+    count = sym states;
+    once = once;
+    reached = subst
+        (λ (d : ℕ). AreKeysReached space.parties space.bytes_of first d explored.is_complete search.seen.strings)
+        (sym depth)
+        (subst (λ (b : Bool). AreKeysReached space.parties space.bytes_of first (last_level (node_levels search)) b
+        search.seen.strings) (sym complete) s.keys);
+  }
+
+  -- a search that stored none counts none
+  pub none-counted : (explored : Explored) → explored.states ≡ 0 → explored.is_complete ≡ false
+      → CountsStates space.parties space.bytes_of first explored
+  none-counted explored none stopped = record {
+    keys = [];
+    count = sym none;
+    once = λ i j string at. absurd cc;
+    reached = record {
+      sound = λ bytes i. absurd i;
+      complete = λ e. let clash : false ≡ true = sym stopped ∙ e in absurd cc;
+    };
+  }
 
   -- ---- the first world
 
@@ -178,6 +226,9 @@ module _ {P : Type 0} (space : Space P Move) (lawful : IsLawfulSpace space) (fir
           early = λ row i. absurd i;
           distinct = λ row other i. absurd i;
         });
+    written = subst (λ (k : List (List ℕ)). AreWritten space k only) (sym keys) written;
+    within = λ x i. ⊎_elim (λ (e : here ≡ x). subst (λ (z : Stored P). z.level ≤ last_level (node_levels search)) e
+        (omega arith)) (λ j. absurd j) i;
   }
     where
       here : Stored P
@@ -188,6 +239,12 @@ module _ {P : Type 0} (space : Space P Move) (lawful : IsLawfulSpace space) (fir
 
       stored : IsStoredWorld space first here
       stored = record { fine = fine; reached = reached-none space.parties first }
+
+      written : AreWritten space (space.bytes_of first ∷ []) only
+      written zero bytes x at is =
+          ap (λ (z : Stored P). space.bytes_of z.world) (sym (same_Some here x is))
+          ∙ same_Some (space.bytes_of first) bytes at
+      written (suc i) bytes x at is = absurd cc
 
       keyed : (i : ℕ) (bytes : List ℕ) (x : Stored P) → slice_get (space.bytes_of first ∷ []) i ≡ Some bytes
           → slice_get only i ≡ Some x → IsKeyOf space bytes x.world

@@ -4,6 +4,7 @@ pub mod Tables
 pub mod Reached
 pub mod Growth
 pub mod Whole
+pub mod Counted
 pub mod Added
 pub mod Equal
 pub mod Noted

@@ -1,7 +1,7 @@
 -- A step that is noted.
-use Rattle.std.proofs.Common.{◌≡◌, ℕ, zero, suc, ◌+◌, ◌<◌, List, [], ◌∷◌, ◌++◌, Option, Some, refl, sym, ◌∙◌}
-use Rattle.std.proofs.Common.{◌==◌, Bool, get_or, take, subst, length, inl, inr, ⊎_elim, arith}
-use Rattle.std.specs.Prelude.{slice_get}
+use Rattle.std.proofs.Common.{◌≡◌, ℕ, zero, suc, ◌+◌, ◌<◌, List, [], ◌∷◌, ◌++◌, Option, Some, refl, sym, ap, ◌∙◌}
+use Rattle.std.proofs.Common.{◌==◌, Bool, get_or, take, subst, length, length-append, inl, inr, ⊎_elim, arith}
+use Rattle.std.specs.Prelude.{slice_get, unwrap_or, ◌-◌}
 use Rattle.dsa_base.{specs.Lists.{In}, proofs.Lists.{In-left, In-push}}
 use Rattle.dsa_book.specs.declared.answer.Reply.{Reply}
 use Rattle.dsa_keys.specs.Parties.{World, Stored, HaveEqualKeys, IsStored, world_after}
@@ -13,10 +13,10 @@ use Rattle.dsa_explore.specs.Rows.{HasFinding, AddsRows, labels_of}
 use Rattle.dsa_book.specs.declared.fate.FateRow.{FateRow}
 use Rattle.std.proofs.lemmas.{Bool.{eqb-true}, List.{take_more}}
 use Rattle.dsa_explore.specs.Search.{Space, IsFine, IsLawfulSpace, IsWorldTable, AreRows, IsStepNoted, IsTriedBy}
-use Rattle.dsa_explore.specs.Search.{queue_taken_from}
-use Rattle.dsa_explore.specs.Stored.{IsStoredAt, IsOldKey, IsNewKey, node_levels}
-use Rattle.dsa_explore.specs.Trying.{IsAt, IsFurther, IsThere, IsAttempted, AreTried}
-use Rattle.dsa_explore.proofs.Growth.{In-get, get-below, known-stored, table-pushed, told-soon, fine-more}
+use Rattle.dsa_explore.specs.Search.{queue_taken_from, AreWritten, AreWithin}
+use Rattle.dsa_explore.specs.Stored.{IsStoredAt, IsOldKey, IsNewKey, last_level, node_levels}
+use Rattle.dsa_explore.specs.Trying.{IsSearch, HasTable, IsAt, IsFurther, IsThere, IsAttempted, AreTried}
+use Rattle.dsa_explore.proofs.Growth.{In-get, get-below, get-push, known-stored, table-pushed, told-soon, fine-more}
 use Rattle.dsa_explore.proofs.Tables.{other-keys, tried-by, tried-as, noted-more}
 
 -- a place of a list is one of each longer list
@@ -25,7 +25,34 @@ get-left [] ys i x h = absurd cc
 get-left (y ∷ xs) ys zero x h = h
 get-left (y ∷ xs) ys (suc i) x h = get-left xs ys i x h
 
-module _ {P : Type 0} (space : Space P Move) (lawful : IsLawfulSpace space) (first : World P) where
+get-last : {X : Type 0} (xs : List X) (y : X) → slice_get (xs ++ y ∷ []) (length xs) ≡ Some y
+get-last [] y = refl
+get-last (x ∷ xs) y = get-last xs y
+
+-- the last level is that of the world that is pushed
+last-pushed : (levels : List ℕ) (level : ℕ) → last_level (levels ++ level ∷ []) ≡ level
+last-pushed levels level =
+    let place : length (levels ++ level ∷ []) - 1 ≡ length levels =
+    omega (arith, length-append levels (level ∷ [])) in
+    ap (λ n. unwrap_or (slice_get (levels ++ level ∷ []) n) 0) place
+    ∙ ap (λ o. unwrap_or o 0) (get-last levels level)
+
+module _ {P : Type 0} (space : Space P Move) (lawful : IsLawfulSpace space)
+    (byte-keys : (w v : World P) → HaveEqualKeys w v → space.bytes_of w ≡ space.bytes_of v) (first : World P) where
+  -- what is stored stays so where keys, levels and front do
+  same-search : (old new : Search) (table : List (Stored P)) → IsSearch space first old table
+      → new.seen.strings ≡ old.seen.strings → node_levels new ≡ node_levels old → new.front ≡ old.front
+      → AreRows space first new.front new.rows.items → IsSearch space first new table
+  same-search old new table is keys levels front rows = record {
+    table_is = subst (λ (f : ℕ). IsWorldTable space first new.seen.strings (node_levels new) f table) (sym front)
+        (subst (λ (l : List ℕ). IsWorldTable space first new.seen.strings l old.front table) (sym levels)
+        (subst (λ (k : List (List ℕ)). IsWorldTable space first k (node_levels old) old.front table) (sym keys)
+        is.table_is));
+    rows_are = rows;
+    written = subst (λ (k : List (List ℕ)). AreWritten space k table) (sym keys) is.written;
+    within = subst (λ (l : List ℕ). AreWithin (last_level l) table) (sym levels) is.within;
+  }
+
   -- rows that a step adds may come
   pub rows-added : (front : ℕ) (findings : List Finding) (old new : List Found) → AreRows space first front old
       → ((finding : Finding) → In finding findings → MayCome space.parties space.asks first front finding)
@@ -101,15 +128,7 @@ module _ {P : Type 0} (space : Space P Move) (lawful : IsLawfulSpace space) (fir
           more = table;
           further = record {
             is_at = record {
-              is_search = record {
-                table_is = subst (λ (f : ℕ). IsWorldTable space first new.seen.strings (node_levels new) f table)
-                    (sym front)
-                    (subst (λ (l : List ℕ). IsWorldTable space first new.seen.strings l old.front table)
-                    (sym key.levels)
-                    (subst (λ (k : List (List ℕ)). IsWorldTable space first k (node_levels old) old.front table)
-                    (sym key.keys) t));
-                rows_are = noted-rows;
-              };
+              is_search = same-search old new table is.is_search key.keys key.levels front noted-rows;
               at = is.at;
               front = front ∙ is.front;
             };
@@ -148,6 +167,8 @@ module _ {P : Type 0} (space : Space P Move) (lawful : IsLawfulSpace space) (fir
                     (subst (λ (k : List (List ℕ)). IsWorldTable space first k
                     (node_levels old ++ old.front ∷ []) old.front more) (sym key.keys) p.2.1));
                 rows_are = noted-rows;
+                written = subst (λ (k : List (List ℕ)). AreWritten space k more) (sym key.keys) (written y p.2.0);
+                within = subst (λ (l : List ℕ). AreWithin (last_level l) more) (sym key.levels) (within-more y p.1);
               };
               at = get-left table (y ∷ []) number x is.at;
               front = front ∙ is.front;
@@ -160,9 +181,39 @@ module _ {P : Type 0} (space : Space P Move) (lawful : IsLawfulSpace space) (fir
           back = λ e. absurd (omega (arith, e, key.is, t.count, get-below table number x is.at));
         }
       where
+        t : IsWorldTable space first old.seen.strings (node_levels old) old.front table
+        t = is.is_search.table_is
+
+        written : (y : Stored P) → HaveEqualKeys v' y.world
+            → AreWritten space (old.seen.strings ++ space.bytes_of v' ∷ []) (table ++ y ∷ [])
+        written y k = λ i bytes z at here. ⊎_elim
+            (λ (e : slice_get old.seen.strings i ≡ Some bytes). ⊎_elim
+            (λ (e' : slice_get table i ≡ Some z). is.is_search.written i bytes z e e')
+            (λ p. absurd (omega (arith, get-below old.seen.strings i bytes e, p.0, t.count)))
+            (get-push table y i z here))
+            (λ q. ⊎_elim
+            (λ (e' : slice_get table i ≡ Some z). absurd (omega (arith, get-below table i z e', q.0, t.count)))
+            (λ p. ap (λ (x : Stored P). space.bytes_of x.world) (sym p.1) ∙ sym (byte-keys v' y.world k) ∙ q.1)
+            (get-push table y i z here))
+            (get-push old.seen.strings (space.bytes_of v') i bytes at)
+
+        within-more : (y : Stored P) → y.level ≡ old.front
+            → AreWithin (last_level (node_levels old ++ old.front ∷ [])) (table ++ y ∷ [])
+        within-more y e = λ z i.
+            let last = last-pushed (node_levels old) old.front in
+            ⊎_elim (λ j. omega (arith, t.low z j, last))
+            (λ (s : y ≡ z). omega (arith, ap (λ (x : Stored P). x.level) s, e, last)) (In-push z table y i)
+
         In-last : {X : Type 0} (xs : List X) (y : X) → In y (xs ++ y ∷ [])
         In-last [] y = inl refl
         In-last (x ∷ xs) y = inr (In-last xs y)
+
+    -- a step after which nothing more is stored
+    pub noted-table : new.seen.strings ≡ old.seen.strings → node_levels new ≡ node_levels old → HasTable space first new
+    noted-table keys levels = record {
+      table = table;
+      is_search = same-search old new table is.is_search keys levels front noted-rows;
+    }
 
     pub noted-step : (at : ℕ) → IsStoredAt old (space.bytes_of v') at new
         → IsNotedStep old table number x v move reply v' at new

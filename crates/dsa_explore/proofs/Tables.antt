@@ -158,7 +158,7 @@ module _ {P M : Type 0} (caps : Caps) (parties : Parties P M) (asks : AskOf P M)
     pub worlds : (x : Stored P) → In x table → IsGoodWorld caps good x.world
     pub expanded : (x : Stored P) → In x table → IsExpanded parties asks table rows (x.level + 1) x.world
 
-  whole-closed : (table : List (Stored P)) (rows : List Found) → IsWhole table rows
+  pub whole-closed : (table : List (Stored P)) (rows : List Found) → IsWhole table rows
       → IsClosedTable caps parties good table
   whole-closed table rows whole = record {
     worlds = whole.worlds;

@@ -2,9 +2,11 @@ pub mod Findings
 pub mod Explored
 pub mod Search
 pub mod Rows
+pub mod Counted
 pub mod Stored
 pub mod Trying
 pub mod Keys
 pub mod Walked
 pub mod Tries
 pub mod WorkedSearch
+pub mod WorkedSetup

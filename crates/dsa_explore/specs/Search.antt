@@ -61,6 +61,15 @@ pub record IsWorldTable {P M : Type 0} (space : Space P M) (first : World P) (ke
   pub low : (x : Stored P) → In x table → x.level ≤ front
   pub begin : In (record { level = 0; world = first }) table
 
+-- each key is the bytes of the world of its number
+abbrev pub AreWritten : {P M : Type 0} → Space P M → List (List ℕ) → List (Stored P) → Type 0
+AreWritten {P} {M} space keys table = (i : ℕ) (bytes : List ℕ) (x : Stored P) → slice_get keys i ≡ Some bytes
+    → slice_get table i ≡ Some x → space.bytes_of x.world ≡ bytes
+
+-- no world is stored at a later level
+abbrev pub AreWithin : {P : Type 0} → ℕ → List (Stored P) → Type 0
+AreWithin {P} depth table = (x : Stored P) → In x table → x.level ≤ depth
+
 -- ---- rows
 
 -- each row may come, with no more steps than the front says, and no two have one finding

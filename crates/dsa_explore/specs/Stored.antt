@@ -1,10 +1,14 @@
 -- Worlds that are stored by their keys.
-use Rattle.std.specs.Prelude.{◌≡◌, ◌⊎◌, ℕ, ◌+◌, ◌≤◌, List, [], ◌∷◌, ◌++◌, length, map, Some, slice_get}
+use Rattle.std.specs.Prelude.{◌≡◌, ◌⊎◌, ℕ, ◌+◌, ◌-◌, ◌≤◌, List, [], ◌∷◌, ◌++◌, length, map, Some, slice_get, unwrap_or}
 use Rattle.dsa_explore.specs.declared.stored.{Node.{Node}, Search.{Search}}
 
 -- the levels of the worlds that are stored
 abbrev pub node_levels : Search → List ℕ
 node_levels search = map (λ (node : Node). node.level) search.nodes.items
+
+-- the level of the world that was stored last
+abbrev pub last_level : List ℕ → ℕ
+last_level levels = unwrap_or (slice_get levels (length levels - 1)) 0
 
 -- the key was there under this number
 pub record IsOldKey (old : Search) (key : List ℕ) (number : ℕ) (new : Search) : Type 0 where

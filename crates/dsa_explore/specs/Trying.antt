@@ -1,18 +1,33 @@
 -- A search while it tries the moves from one stored world.
-use Rattle.std.specs.Prelude.{◌≡◌, ℕ, ◌+◌, Bool, true, false, List, Option, Some, None, slice_get}
+use Rattle.std.specs.Prelude.{◌≡◌, ℕ, ◌+◌, ◌<◌, length, Bool, true, false, List, Option, Some, None, slice_get}
 use Rattle.dsa_base.specs.Lists.{In}
 use Rattle.dsa_keys.specs.Parties.{World, Stored, HaveEqualKeys}
 use Rattle.dsa_parties.specs.declared.places.Move.{Move}
 use Rattle.dsa_explore.specs.declared.found.Found.{Found}
 use Rattle.dsa_explore.specs.declared.stored.{Search.{Search}, Try.{Try}}
-use Rattle.dsa_explore.specs.Search.{Space, IsFine, IsWorldTable, AreRows, IsExpanded, IsTriedBy}
-use Rattle.dsa_explore.specs.Stored.{node_levels}
+use Rattle.dsa_explore.specs.Search.{Space, IsFine, IsWorldTable, AreRows, IsExpanded, IsTriedBy, AreWritten, AreWithin}
+use Rattle.dsa_explore.specs.{Explored.{AreFindings}, Counted.{AreKeysReached}, Stored.{last_level, node_levels}}
 
 -- the worlds of a table are stored in the search, and its rows may come
 pub record IsSearch {P : Type 0} (space : Space P Move) (first : World P) (search : Search) (table : List (Stored P))
     : Type 0 where
   pub table_is : IsWorldTable space first search.seen.strings (node_levels search) search.front table
   pub rows_are : AreRows space first search.front search.rows.items
+  pub written : AreWritten space search.seen.strings table
+  pub within : AreWithin (last_level (node_levels search)) table
+
+-- some worlds are stored in the search
+pub record HasTable {P : Type 0} (space : Space P Move) (first : World P) (search : Search) : Type 0 where
+  pub table : List (Stored P)
+  pub is_search : IsSearch space first search table
+
+-- what a search leaves: its rows, and the keys of the worlds that it stored, of which there is one
+pub record IsSearched {P : Type 0} (space : Space P Move) (first : World P) (search : Search) (is_complete : Bool)
+    : Type 0 where
+  pub findings : AreFindings space.parties space.asks first search.rows.items is_complete
+  pub keys : AreKeysReached space.parties space.bytes_of first (last_level (node_levels search)) is_complete
+      search.seen.strings
+  pub some : 0 < length search.seen.strings
 
 -- the search stands at the stored world of this number, which is one level before its front
 pub record IsAt {P : Type 0} (space : Space P Move) (first : World P) (search : Search) (table : List (Stored P))
@@ -50,20 +65,20 @@ pub record IsAttempted {P : Type 0} (space : Space P Move) (first : World P) (ol
   pub tried : IsTriedBy space.parties space.asks more new.rows.items (x.level + 1) x.world try.by try.queue
   pub there : back ≡ true → IsThere space x w
 
--- a search that stops has rows that may come
+-- a search that stops has stored worlds, and rows that may come
 abbrev pub IsTriedOrStopped : {P : Type 0} → Space P Move → World P → Search → List (Stored P) → ℕ → Stored P
     → List Try → Search → Bool → Type 0
 IsTriedOrStopped space first old table number x tries new true = AreTried space first old table number x tries new
-IsTriedOrStopped space first old table number x tries new false = AreRows space first new.front new.rows.items
+IsTriedOrStopped space first old table number x tries new false = HasTable space first new
 
 -- the same of one step
 abbrev pub IsAttemptedOrStopped : {P : Type 0} → Space P Move → World P → Search → List (Stored P) → ℕ → Stored P
     → Try → Search → World P → Option Bool → Type 0
 IsAttemptedOrStopped space first old table number x try new w (Some back) =
     IsAttempted space first old table number x try new w back
-IsAttemptedOrStopped space first old table number x try new w None = AreRows space first new.front new.rows.items
+IsAttemptedOrStopped space first old table number x try new w None = HasTable space first new
 
--- a search that goes on has expanded the world, and one that stops has rows that may come
+-- a search that goes on has expanded the world
 pub record IsExpandedAt {P : Type 0} (space : Space P Move) (first : World P) (old : Search) (table : List (Stored P))
     (number : ℕ) (x : Stored P) (new : Search) : Type 0 where
   pub more : List (Stored P)
@@ -76,4 +91,4 @@ pub record IsExpandedAt {P : Type 0} (space : Space P Move) (first : World P) (o
 abbrev pub IsExpandedOrStopped : {P : Type 0} → Space P Move → World P → Search → List (Stored P) → ℕ → Stored P
     → Search → Bool → Type 0
 IsExpandedOrStopped space first old table number x new true = IsExpandedAt space first old table number x new
-IsExpandedOrStopped space first old table number x new false = AreRows space first new.front new.rows.items
+IsExpandedOrStopped space first old table number x new false = HasTable space first new

@@ -85,6 +85,10 @@ two_rows =
 abbrev pub idle_parties : Parties ℕ ℕ
 idle_parties = record { offer = λ place seen move. None; moved = λ place move sight. place }
 
+-- a key that all worlds have
+abbrev pub one_key : World ℕ → List ℕ
+one_key w = 7 ∷ []
+
 -- one who asks for nothing
 abbrev pub asking_nothing : ℕ → ℕ → Option Ask
 asking_nothing place move = None

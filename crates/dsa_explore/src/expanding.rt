@@ -1,14 +1,12 @@
 //! The search: one stored world after the other is expanded.
 
-ghost use Rattle.std.specs.Prelude.{◌≡◌, List, Some, IfOk, slice_get, true, false};
+ghost use Rattle.std.specs.Prelude.{◌≡◌, List, Some, IfOk, OnOk, slice_get, true, false};
 ghost use Rattle.dsa_keys.specs.Parties.{World, Stored};
 ghost use Rattle.dsa_parties.specs.Standing.{Standing};
-ghost use Rattle.dsa_parties.specs.Offers.{parties_of};
-ghost use Rattle.dsa_explore.specs.Explored.{AreFindings};
 ghost use Rattle.dsa_explore.specs.Search.{IsFine};
 ghost use Rattle.dsa_explore.specs.Stored.{IsAdvanced};
-ghost use Rattle.dsa_explore.specs.Trying.{IsSearch, IsExpandedOrStopped};
-ghost use Rattle.dsa_explore.specs.Walked.{ask_of, space_of};
+ghost use Rattle.dsa_explore.specs.Trying.{IsSearch, IsSearched, IsExpandedOrStopped};
+ghost use Rattle.dsa_explore.specs.Walked.{space_of};
 
 use crate::keys::Key;
 use crate::stored::{Node, Search};
@@ -47,13 +45,14 @@ fn expand(
     number: u32,
     key: &mut Key,
 ) -> Result<bool, AllocError>
-    ensures { IfOk result (λ goes_on. (first : World Standing)
+    ensures expanded { IfOk result (λ goes_on. (first : World Standing)
         → (table : List (Stored Standing))
         → (x : Stored Standing)
         → IsSearch (space_of plan.now.caps plan.now.script.now) first search.old table
         → slice_get table number ≡ Some x
         → IsExpandedOrStopped (space_of plan.now.caps plan.now.script.now) first search.old table
         number x search.new goes_on) }
+    ensures most { OnOk result (search.new.seen.most ≡ search.old.seen.most) }
 {
     let Some(node) = node_of(search, number) else {
         return Ok(false);
@@ -77,12 +76,12 @@ pub fn expand_all(
     most: u32,
     key: &mut Key,
 ) -> Result<bool, AllocError>
-    ensures { IfOk result (λ is_complete. (first : World Standing)
+    ensures searched { IfOk result (λ is_complete. (first : World Standing)
         → (table : List (Stored Standing))
         → IsFine (space_of plan.now.caps plan.now.script.now) first
         → IsSearch (space_of plan.now.caps plan.now.script.now) first search.old table
-        → AreFindings (parties_of plan.now.script.now) (ask_of plan.now.script.now) first
-        search.new.rows.items is_complete) }
+        → IsSearched (space_of plan.now.caps plan.now.script.now) first search.new is_complete) }
+    ensures most { OnOk result (search.new.seen.most ≡ search.old.seen.most) }
 {
     for number in 0..most {
         if number >= search.seen.len() {

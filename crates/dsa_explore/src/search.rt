@@ -1,14 +1,17 @@
 //! The whole search.
 
-ghost use Rattle.std.specs.Prelude.{◌≡◌, [], ◌∷◌, true, IfOk, IfSome};
-ghost use Rattle.dsa_explore.specs.Stored.{node_levels};
-ghost use Rattle.dsa_explore.specs.Walked.{IsExplored};
+ghost use Rattle.std.specs.Prelude.{◌≡◌, ◌≤◌, [], ◌∷◌, length, true, false, IfOk, IfSome, IfNone, OnOk};
+ghost use Rattle.dsa_seen.specs.Table.{HasOneNumberEach};
+ghost use Rattle.dsa_explore.specs.Counted.{FoundNothing};
+ghost use Rattle.dsa_explore.specs.Stored.{last_level, node_levels};
+ghost use Rattle.dsa_explore.specs.Keys.{world_bytes};
+ghost use Rattle.dsa_explore.specs.Walked.{CannotBegin, IsExplored, world_of};
 
 use crate::expanding::expand_all;
 use crate::found::Explored;
 use crate::keys::{Key, write_world};
 use crate::stored::{Node, Search, Try};
-use crate::walked::{Plan, begin};
+use crate::walked::{Plan, Walked, begin};
 use dsa_parties::Move;
 use dsa_seen::{Inserted, Seen};
 use std::alloc::{AllocError, Global};
@@ -26,6 +29,8 @@ fn new_search(alloc: Global, bounds: Bounds) -> Result<Search, AllocError>
     ensures keys { IfOk result (λ search. search.seen.strings ≡ []) }
     ensures nodes { IfOk result (λ search. search.nodes.items ≡ []) }
     ensures rows { IfOk result (λ search. search.rows.items ≡ []) }
+    ensures most { IfOk result (λ search. search.seen.most ≡ bounds.states) }
+    ensures tried { IfOk result (λ search. search.tried ≡ 0) }
 {
     let seen = Seen::new(alloc, bounds.states, bounds.key_bytes)?;
     let nodes = Vec::with_capacity(alloc, bounds.states as usize)?;
@@ -39,15 +44,22 @@ fn new_search(alloc: Global, bounds: Bounds) -> Result<Search, AllocError>
     })
 }
 
-// Stores the first world by its key. False where it does not fit.
-fn store_first(search: &mut Search, key: &[u8]) -> Result<bool, AllocError>
+// Stores the world as the first, by its key. False where it does not fit.
+fn store_first(search: &mut Search, walked: &Walked, key: &mut Key) -> Result<bool, AllocError>
     requires keys { search.old.seen.strings ≡ [] }
     requires nodes { search.old.nodes.items ≡ [] }
-    ensures keys { IfOk result (λ fits. fits ≡ true → search.new.seen.strings ≡ key.now ∷ []) }
+    ensures keys { IfOk result
+        (λ fits. fits ≡ true
+        → search.new.seen.strings ≡ world_bytes (world_of walked.now) ∷ []) }
     ensures levels { IfOk result (λ fits. fits ≡ true → node_levels search.new ≡ 0 ∷ []) }
-    ensures rows { IfOk result (λ fits. fits ≡ true → search.new.rows ≡ search.old.rows) }
+    ensures rows { OnOk result (search.new.rows ≡ search.old.rows) }
+    ensures most { OnOk result (search.new.seen.most ≡ search.old.seen.most) }
+    ensures unstored { IfOk result (λ fits. fits ≡ false → search.new ≡ search.old) }
 {
-    let Inserted::New(_) = search.seen.insert(key) else {
+    if !write_world(walked, key)? {
+        return Ok(false);
+    }
+    let Inserted::New(_) = search.seen.insert(key.bytes.as_slice()) else {
         return Ok(false);
     };
     let tried = Try {
@@ -65,6 +77,11 @@ fn store_first(search: &mut Search, key: &[u8]) -> Result<bool, AllocError>
 // What the search found.
 fn explored(search: Search, is_complete: bool) -> Explored
     ensures rows { result.rows ≡ search.rows }
+    ensures states { result.states ≡ length search.seen.strings }
+    ensures once { HasOneNumberEach search.seen.strings }
+    ensures most { result.states ≤ search.seen.most }
+    ensures tried { result.tried ≡ search.tried }
+    ensures depth { result.depth ≡ last_level (node_levels search) }
     ensures is_complete { result.is_complete ≡ is_complete }
 {
     let depth = match search.nodes.as_slice().last() {
@@ -82,29 +99,33 @@ fn explored(search: Search, is_complete: bool) -> Explored
 
 /// Searches every order of the parties' steps after the set-up, breadth first.
 ///
-/// Each row may come with as many steps as it says. Where the search is complete, all that may come
-/// is a row, and each row has the fewest steps. It stops where its bounds are met. `None` where no
-/// device can be made with these capabilities, the set-up lets an entry come in, or the bounds have
-/// no room for the first state.
+/// Each row may come with as many steps as it says. If the search is complete, all that may come is
+/// a row, each row has the fewest steps, and the states are all that can be reached, each counted
+/// once. It stops where its bounds are met: if they have no room for the first state, it finds
+/// nothing. `None` if no device can be made with these capabilities, or the set-up lets an entry
+/// come in.
 pub fn explore(
     alloc: Global,
     plan: &Plan<'_>,
     bounds: Bounds,
 ) -> Result<Option<Explored>, AllocError>
-    ensures { IfOk result
+    ensures explored { IfOk result
         (λ found. IfSome found
         (λ explored. IsExplored plan.now.caps plan.now.script.now plan.now.setup.now explored)) }
+    ensures states { IfOk result
+        (λ found. IfSome found (λ explored. explored.states ≤ bounds.states)) }
+    ensures nothing { IfOk result
+        (λ found. IfSome found (λ explored. explored.states ≡ 0 → FoundNothing explored)) }
+    ensures none { IfOk result
+        (λ found. IfNone found (CannotBegin plan.now.caps plan.now.setup.now)) }
 {
     let mut search = new_search(alloc, bounds)?;
     let mut key = Key::new(alloc, bounds.key_bytes)?;
     let Some(walked) = begin(alloc, plan, plan.setup.len() as u64)? else {
         return Ok(None);
     };
-    if !write_world(&walked, &mut key)? {
-        return Ok(None);
-    }
-    if !store_first(&mut search, key.bytes.as_slice())? {
-        return Ok(None);
+    if !store_first(&mut search, &walked, &mut key)? {
+        return Ok(Some(explored(search, false)));
     }
     let is_complete = expand_all(alloc, plan, &mut search, bounds.states, &mut key)?;
     Ok(Some(explored(search, is_complete)))

@@ -1,6 +1,6 @@
 //! The worlds that a search stored, by their keys, and the rows that it found.
 
-ghost use Rattle.std.specs.Prelude.{◌≡◌, IfOk, IfSome, OnOk};
+ghost use Rattle.std.specs.Prelude.{◌≡◌, IfOk, IfSome, IfNone, OnOk};
 ghost use Rattle.dsa_explore.specs.Findings.{findings_told};
 ghost use Rattle.dsa_explore.specs.Rows.{AddsRows, labels_of};
 ghost use Rattle.dsa_explore.specs.Stored.{IsStoredAt};
@@ -47,6 +47,10 @@ fn store(
 ) -> Result<Option<u32>, AllocError>
     ensures stored { IfOk result
         (λ number. IfSome number (λ i. IsStoredAt search.old key.now i search.new)) }
+    ensures unstored { IfOk result
+        (λ number. IfNone number
+        ((search.new.seen ≡ search.old.seen) × (search.new.nodes ≡ search.old.nodes))) }
+    ensures most { OnOk result (search.new.seen.most ≡ search.old.seen.most) }
     ensures rows { OnOk result (search.new.rows ≡ search.old.rows) }
     ensures front { OnOk result (search.new.front ≡ search.old.front) }
 {
@@ -75,6 +79,10 @@ pub fn note(
 ) -> Result<Option<u32>, AllocError>
     ensures stored { IfOk result
         (λ number. IfSome number (λ i. IsStoredAt search.old key.now i search.new)) }
+    ensures unstored { IfOk result
+        (λ number. IfNone number
+        ((search.new.seen ≡ search.old.seen) × (search.new.nodes ≡ search.old.nodes))) }
+    ensures most { OnOk result (search.new.seen.most ≡ search.old.seen.most) }
     ensures rows { OnOk result
         (AddsRows search.old.front
         (findings_told told.now.ask (labels_of told.now.labels.now) told.now.reply told.now.ends.now

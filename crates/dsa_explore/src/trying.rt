@@ -1,6 +1,6 @@
 //! The tries from one stored world.
 
-ghost use Rattle.std.specs.Prelude.{◌≡◌, List, Some, IfOk, IfSome, slice_get, true, drop};
+ghost use Rattle.std.specs.Prelude.{◌≡◌, List, Some, IfOk, IfSome, OnOk, slice_get, true, drop};
 ghost use Rattle.dsa_keys.specs.Parties.{World, Stored};
 ghost use Rattle.dsa_parties.specs.Standing.{Standing};
 ghost use Rattle.dsa_explore.specs.Search.{IsFine};
@@ -128,13 +128,14 @@ fn attempt(
     tried: Try,
     key: &mut Key,
 ) -> Result<Option<bool>, AllocError>
-    ensures { IfOk result (λ back. (first : World Standing)
+    ensures step { IfOk result (λ back. (first : World Standing)
         → (table : List (Stored Standing))
         → (x : Stored Standing)
         → IsAt (space_of plan.now.caps plan.now.script.now) first search.old table number x
         → IsThere (space_of plan.now.caps plan.now.script.now) x (world_of walked.old)
         → IsAttemptedOrStopped (space_of plan.now.caps plan.now.script.now) first search.old table
         number x tried search.new (world_of walked.new) back) }
+    ensures most { OnOk result (search.new.seen.most ≡ search.old.seen.most) }
 {
     let ask = ask_of(plan, walked, tried.by);
     let before = walked.machine.device.fates().len();
@@ -204,13 +205,14 @@ pub fn try_all(
     tries: &[Try],
     key: &mut Key,
 ) -> Result<bool, AllocError>
-    ensures { IfOk result (λ goes_on. (first : World Standing)
+    ensures steps { IfOk result (λ goes_on. (first : World Standing)
         → (table : List (Stored Standing))
         → (x : Stored Standing)
         → IsAt (space_of plan.now.caps plan.now.script.now) first search.old table number x
         → IsThere (space_of plan.now.caps plan.now.script.now) x (world_of at_first)
         → IsTriedOrStopped (space_of plan.now.caps plan.now.script.now) first search.old table
         number x tries.now search.new goes_on) }
+    ensures most { OnOk result (search.new.seen.most ≡ search.old.seen.most) }
 {
     let mut walked = at_first;
     let mut is_there = true;

@@ -1,6 +1,6 @@
 //! A device on which the parties of a script moved.
 
-ghost use Rattle.std.specs.Prelude.{◌≡◌, ◌&&◌, ◌==◌, ℕ, Some, IfOk, IfSome, true, false, find, option_map};
+ghost use Rattle.std.specs.Prelude.{◌≡◌, ◌&&◌, ◌==◌, ℕ, nat_lt, Some, IfOk, IfSome, IfNone, true, find, length, option_map};
 ghost use Rattle.dsa_store.specs.Content.{HeldEntry};
 ghost use Rattle.dsa_book.specs.Machine.{next};
 ghost use Rattle.dsa_keys.specs.Labels.{with_label};
@@ -15,7 +15,7 @@ ghost use Rattle.dsa_base.specs.Rows.{when};
 ghost use Rattle.dsa_explore.specs.declared.walked.Offered.{Offered};
 ghost use Rattle.dsa_explore.specs.Rows.{labels_of};
 ghost use Rattle.dsa_explore.specs.Search.{IsFine, queue_taken_from};
-ghost use Rattle.dsa_explore.specs.Walked.{IsFirst, IsOffer, ask_of, space_of, world_of};
+ghost use Rattle.dsa_explore.specs.Walked.{CannotBegin, HasNoDevice, IsFirst, IsOffer, ask_of, space_of, world_of};
 
 use crate::found::Ask;
 use crate::rows::{label_of, labelled_reply};
@@ -54,10 +54,11 @@ pub struct Offered {
     pub label: u32,
 }
 
-// A new device. `None` where there is none with these capabilities.
+// A new device. `None` where there is none with these capabilities and this capacity.
 fn new_machine(alloc: Global, caps: Caps, capacity: u64) -> Result<Option<LinkedDevice>, AllocError>
-    ensures { IfOk result
+    ensures first { IfOk result
         (λ found. IfSome found (λ machine. machine.device ≡ running_at_first caps capacity)) }
+    ensures none { IfOk result (λ found. IfNone found (HasNoDevice caps capacity)) }
 {
     match LinkedDevice::new(alloc, caps, capacity) {
         Ok(machine) => Ok(Some(machine)),
@@ -68,20 +69,24 @@ fn new_machine(alloc: Global, caps: Caps, capacity: u64) -> Result<Option<Linked
 
 // Whether a name was given.
 fn has_names(machine: &LinkedDevice) -> bool
-    ensures { result ≡ false → machine.now.device.state.work.setup.next_name ≡ 0 }
+    ensures { result ≡ nat_lt 0 machine.now.device.state.work.setup.next_name }
 {
     machine.device.next_name() > 0
 }
 
-/// A new device after the set-up. `None` where it cannot be made, or an entry came in.
+/// A new device after the set-up, with this capacity. `None` where it cannot be made, or an entry
+/// came in.
 pub fn begin(alloc: Global, plan: &Plan<'_>, capacity: u64) -> Result<Option<Walked>, AllocError>
     ensures fine { IfOk result
         (λ found. IfSome found
         (λ walked. IsFine (space_of plan.now.caps plan.now.script.now) (world_of walked))) }
-    ensures begun { IfOk result
+    ensures begun { capacity ≡ length plan.now.setup.now
+        → IfOk result
         (λ found. IfSome found
         (λ walked. IsFirst plan.now.caps plan.now.script.now plan.now.setup.now
         (world_of walked))) }
+    ensures none { capacity ≡ length plan.now.setup.now
+        → IfOk result (λ found. IfNone found (CannotBegin plan.now.caps plan.now.setup.now)) }
 {
     let Some(mut machine) = new_machine(alloc, plan.caps, capacity)? else {
         return Ok(None);

@@ -1,7 +1,7 @@
 //! Worked rows: what steps tell, and what a list of rows says of a search, each on a function with
 //! nothing to do.
 
-ghost use Rattle.std.specs.Prelude.{◌≡◌, [], ◌∷◌, Some, None, map, true, false};
+ghost use Rattle.std.specs.Prelude.{◌≡◌, ◌≤◌, [], ◌∷◌, Some, None, map, true, false};
 ghost use Rattle.dsa_regs.specs.declared.Command.TheVariants.{DisableDevice, DrainAll};
 ghost use Rattle.dsa_book.specs.declared.answer.FinishAnswer.TheVariants.{Done};
 ghost use Rattle.dsa_book.specs.declared.answer.IssueAnswer.TheVariants as issue;
@@ -11,10 +11,14 @@ ghost use Rattle.dsa_book.specs.declared.answer.SubmitAnswer.TheVariants.{Accept
 ghost use Rattle.dsa_book.specs.declared.fate.Fate.TheVariants.{Aborted, Completed};
 ghost use Rattle.dsa_explore.specs.declared.found.Ask.TheVariants.{Act, Submission};
 ghost use Rattle.dsa_explore.specs.declared.found.Finding.TheVariants.{Answer, End, Removal, Wait};
+ghost use Rattle.dsa_explore.specs.declared.found.Explored.{Explored};
+ghost use Rattle.dsa_explore.specs.Counted.{AreKeysReached, CountsStates};
 ghost use Rattle.dsa_explore.specs.Explored.{AreFindings, IsFound};
 ghost use Rattle.dsa_explore.specs.Findings.{findings_of};
 ghost use Rattle.dsa_explore.specs.Rows.{labels_of};
-ghost use Rattle.dsa_explore.specs.WorkedSearch.{asking_nothing, ended_so, idle_parties, quiet_world, two_rows, waiting_world};
+ghost use Rattle.dsa_explore.specs.Walked.{CannotBegin, HasNoDevice, IsLedTo, LetsEntryIn};
+ghost use Rattle.dsa_explore.specs.WorkedSetup.{caps_without_engines, entry_steps, events_of_set_up, opened_steps, state_after_set_up};
+ghost use Rattle.dsa_explore.specs.WorkedSearch.{asking_nothing, ended_so, idle_parties, one_key, quiet_world, two_rows, uneven_caps, waiting_world};
 
 /// The labels of the first names; 0 for all others.
 pub fn labels_by_name()
@@ -72,4 +76,28 @@ pub fn findings_of_the_idle()
     ensures none { AreFindings idle_parties asking_nothing (quiet_world []) [] true }
     ensures bounded { AreFindings idle_parties asking_nothing (quiet_world []) [] false }
     ensures too_much { ¬ AreFindings idle_parties asking_nothing (quiet_world []) two_rows false }
+{}
+
+/// Of parties that do nothing there is one key, that of where they begin.
+pub fn keys_of_the_idle()
+    ensures one { AreKeysReached idle_parties one_key (quiet_world []) 0 true ((7 ∷ []) ∷ []) }
+    ensures bounded { AreKeysReached idle_parties one_key (quiet_world []) 0 false [] }
+    ensures left_out { ¬ AreKeysReached idle_parties one_key (quiet_world []) 0 true [] }
+    ensures another { ¬ AreKeysReached idle_parties one_key (quiet_world []) 9 false
+        ((8 ∷ []) ∷ []) }
+    ensures once { (explored : Explored)
+        → CountsStates idle_parties one_key (quiet_world []) explored
+        → explored.states ≤ 1 }
+{}
+
+/// Where parties begin, and where they cannot: an entry came in, the capabilities are not those of
+/// a device, or the set-up has too many events.
+pub fn set_ups()
+    ensures opened { IsLedTo uneven_caps (events_of_set_up opened_steps)
+        (state_after_set_up opened_steps) }
+    ensures entry { LetsEntryIn uneven_caps (events_of_set_up entry_steps) }
+    ensures no_events { ¬ CannotBegin uneven_caps [] }
+    ensures no_engines { CannotBegin caps_without_engines [] }
+    ensures most_steps { ¬ HasNoDevice uneven_caps 1048576 }
+    ensures too_many_steps { HasNoDevice uneven_caps 1048577 }
 {}

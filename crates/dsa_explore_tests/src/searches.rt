@@ -2,8 +2,9 @@
 
 use crate::worlds::{
     FENCED_MOVE, MOVE, ONE_ENGINE, THREE_GROUPS, TWO_ENGINES, World, batch, client, enabled,
-    enabled_groups, member, once, part, submitted, threshold_written,
+    enabled_and_sent, enabled_groups, member, once, part, submitted, threshold_written,
 };
+use dsa_book::Event;
 use dsa_explore::{Bounds, Explored, Finding, Found, Plan, explore};
 use dsa_parties::{Act, RetryPolicy, ScriptEntry, Until};
 use dsa_regs::{Command, QueueMask};
@@ -13,8 +14,13 @@ use std::process::Abort;
 // How many states are stored at most where all are to be found.
 const ENOUGH: u32 = 4000;
 
-// What a search finds that may store so many states.
-fn searched(rt: &impl Abort, alloc: Global, world: &World<'_>, states: u32) -> Explored {
+// What a search finds within these bounds, if it can begin.
+fn found_within(
+    rt: &impl Abort,
+    alloc: Global,
+    world: &World<'_>,
+    bounds: Bounds,
+) -> Option<Explored> {
     let script = match world.script(alloc) {
         Ok(Some(script)) => script,
         _ => panic!(rt; "there is no script"),
@@ -24,13 +30,21 @@ fn searched(rt: &impl Abort, alloc: Global, world: &World<'_>, states: u32) -> E
         script: &script,
         setup: world.setup,
     };
+    match explore(alloc, &plan, bounds) {
+        Ok(found) => found,
+        Err(_) => panic!(rt; "out of memory"),
+    }
+}
+
+// What a search finds that may store so many states.
+fn searched(rt: &impl Abort, alloc: Global, world: &World<'_>, states: u32) -> Explored {
     let bounds = Bounds {
         states,
         key_bytes: 1000,
     };
-    match explore(alloc, &plan, bounds) {
-        Ok(Some(explored)) => explored,
-        _ => panic!(rt; "there is no search"),
+    match found_within(rt, alloc, world, bounds) {
+        Some(explored) => explored,
+        None => panic!(rt; "there is no search"),
     }
 }
 
@@ -216,4 +230,50 @@ fn two_writers(rt: HostRuntime) {
     is_whole(&rt, &explored, 528, 13, 26);
     let rows = explored.rows.as_slice();
     assert_eq!(rt; steps_of(rows, Finding::Wait { act: 0, label: 2 }), 5);
+}
+
+// A device with two engines whose parties do nothing, after this set-up.
+fn idle(setup: &[Event]) -> World<'_> {
+    World {
+        caps: TWO_ENGINES,
+        setup,
+        entries: &[],
+        clients: &[],
+        acts: &[],
+        administrators: &[],
+        engines: &[0, 1],
+    }
+}
+
+// Within these bounds nothing is stored, tried or found, and the search says so.
+fn is_nothing(rt: &impl Abort, alloc: Global, world: &World<'_>, states: u32, key_bytes: u32) {
+    let bounds = Bounds { states, key_bytes };
+    let Some(explored) = found_within(rt, alloc, world, bounds) else {
+        panic!(rt; "there is no search");
+    };
+    assert!(rt; !explored.is_complete);
+    assert_eq!(rt; explored.states, 0);
+    assert_eq!(rt; explored.tried, 0);
+    assert_eq!(rt; explored.depth, 0);
+    assert_eq!(rt; explored.rows.len(), 0);
+}
+
+#[test]
+fn bounds_without_room(rt: HostRuntime) {
+    let setup = enabled(3);
+    let world = idle(&setup);
+    is_nothing(&rt, rt.alloc(), &world, 0, 1000);
+    is_nothing(&rt, rt.alloc(), &world, 10, 0);
+    is_nothing(&rt, rt.alloc(), &world, 10, 20);
+    is_whole(&rt, &searched(&rt, rt.alloc(), &world, 1), 1, 0, 0);
+}
+
+#[test]
+fn a_setup_that_lets_an_entry_in(rt: HostRuntime) {
+    let setup = enabled_and_sent(3);
+    let bounds = Bounds {
+        states: ENOUGH,
+        key_bytes: 1000,
+    };
+    assert!(rt; found_within(&rt, rt.alloc(), &idle(&setup), bounds).is_none());
 }

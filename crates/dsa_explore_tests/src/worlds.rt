@@ -90,6 +90,19 @@ pub fn enabled(engines: u64) -> [Event; 4] {
     ]
 }
 
+/// The same, and a client has sent a move to the queue.
+pub fn enabled_and_sent(engines: u64) -> [Event; 5] {
+    let opened = enabled(engines);
+    let sent = Event::Submit {
+        client: 0,
+        queue: 0,
+        portal: Portal::Limited,
+        kind: Kind::Enqcmd { pasid: 1 },
+        desc: MOVE,
+    };
+    [opened[0], opened[1], opened[2], opened[3], sent]
+}
+
 const SMALL_QUEUE: QueueConfig = QueueConfig {
     size: 2,
     threshold: 1,

@@ -13,12 +13,12 @@ ghost use Rattle.dsa_named_trace.specs.Streams.{AreNamedLinesOfStart, IsNamedTra
 
 use crate::reading::read_bytes;
 use crate::rendering::NamedTrace;
-use crate::walking::{read_actions, walk_on};
+use crate::walking::walk_on;
 use dsa_cells::LinkedStore;
 use dsa_named::RenderNamed;
 use dsa_scenario::{
     CountedReader, Head, MAX_READS, Run, ScenarioFault, Streamed, WatchedWriter, open_run,
-    parse_head, parse_json, write_text,
+    parse_head, parse_json, read_actions, write_text,
 };
 use dsa_trace::Trace;
 use std::alloc::Global;

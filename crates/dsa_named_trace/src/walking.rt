@@ -1,11 +1,10 @@
 //! The steps of a run, whose lines are written while they are made.
 
-ghost use Rattle.std.specs.Prelude.{◌≡◌, ◌≢◌, ◌⊎◌, ◌+◌, ◌++◌, [], ◌∷◌, ℕ, List, Some, IfErr, IfOk, OnOk, length, map, string_bytes};
+ghost use Rattle.std.specs.Prelude.{◌≡◌, ◌≢◌, ◌⊎◌, ◌+◌, ◌++◌, [], ◌∷◌, ℕ, List, IfErr, IfOk, OnOk, length, map, string_bytes};
 ghost use Rattle.serde_json.specs.View.{view};
 ghost use Rattle.dsa_regs.specs.declared.Caps.{Caps};
 ghost use Rattle.dsa_scenario.specs.declared.actions.Action.{Action};
 ghost use Rattle.dsa_scenario.specs.declared.faults.ScenarioFault.{ScenarioFault};
-ghost use Rattle.dsa_scenario.specs.{Actions.{action_of}, Document.{IsFirstBad}};
 ghost use Rattle.dsa_scenario.specs.Steps.{IsAtFirst, IsWalkTo};
 ghost use Rattle.dsa_named.specs.{Names.{own_of}, Steps.{NamedVisit}};
 ghost use Rattle.dsa_named_trace.specs.Streams.{HasRefusedNamed, HasTakenFirst, HasTakenNamed};
@@ -15,29 +14,12 @@ use crate::rendering::NamedTrace;
 use dsa_named::{NamedPage, RenderNamed, note_name};
 use dsa_scenario::{
     Action, Added, Run, ScenarioFault, StepMade, WatchedWriter, ask, event_for, note_ticket,
-    parse_action, write_piece,
+    write_piece,
 };
 use dsa_store::EntryStore;
 use serde_json::Value;
 use std::alloc::Global;
 use std::io::Write;
-
-/// What the step objects ask, or the first that is none.
-pub fn read_actions(alloc: Global, steps: &[Value]) -> Result<Vec<Action>, ScenarioFault>
-    ensures ok { IfOk result
-        (λ actions. map action_of (map view steps.now) ≡ map Some actions.items) }
-    ensures bad { IfErr result
-        (λ e. (e ≡ ScenarioFault.OutOfMemory) ⊎ IsFirstBad (map view steps.now) e) }
-{
-    let mut actions = Vec::new(alloc);
-    for (i, step) in steps.iter().enumerate() {
-        match parse_action(step) {
-            Some(action) => actions.push(action)?,
-            None => return Err(ScenarioFault::BadStep(i as u64)),
-        }
-    }
-    Ok(actions)
-}
 
 // Runs one action more of these step objects, notes the own name that it gives, and adds its line
 // to the page.

@@ -14,7 +14,7 @@ use Rattle.dsa_parties.specs.declared.script.{ClientScript.{ClientScript}, Part.
 use Rattle.dsa_parties.specs.declared.script.{Submission.{Submission}, Outcomes.{Outcomes}}
 use Rattle.dsa_parties.specs.declared.script.Origin.TheVariants.{Submitted, Fetched}
 use Rattle.dsa_parties.specs.Scripts.{is_fetched_for, counts_members, are_in_order, is_boundary, are_parts, is_script}
-use Rattle.dsa_plans.specs.declared.faults.PartiesFault.TheVariants.{BadParty}
+use Rattle.dsa_scenario.specs.declared.faults.ScenarioFault.TheVariants.{BadParty}
 use Rattle.dsa_parties.specs.declared.script.{Outcomes.TheVariants.{SuccessAlone}, RetryPolicy.TheVariants.{GiveUp}}
 use Rattle.dsa_plans.specs.Said.{lacks, read_or, items_in, each_onto, read_onto, retry_said, outcomes_said}
 use Rattle.dsa_plans.specs.Submitters.{member_bytes, submission_kind, client_number}

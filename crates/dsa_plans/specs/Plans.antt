@@ -1,17 +1,15 @@
 -- The parties of a document, as the tables of a script.
-use Rattle.std.specs.Prelude.{ℕ, ◌+◌, ◌^◌, Bool, cond, ◌&&◌, nat_le, nat_lt, List, [], ◌∷◌, ◌++◌, length, codes}
-use Rattle.std.specs.Prelude.{decimal}
+use Rattle.std.specs.Prelude.{ℕ, ◌+◌, ◌^◌, Bool, cond, ◌&&◌, nat_le, nat_lt, List, [], ◌∷◌, length, codes}
 use Rattle.std.specs.Prelude.{Option, Some, ok_or}
 use Rattle.std.specs.Prelude.{Result, Ok, Err}
 use Rattle.serde_json.specs.{Data.{Data}, Find.{get, as_object}}
 use Rattle.dsa_base.specs.Numbers.{numbers_below}
 use Rattle.dsa_scenario.specs.Fields.{◌>>=◌}
+use Rattle.dsa_scenario.specs.declared.faults.ScenarioFault.{ScenarioFault}
+use Rattle.dsa_scenario.specs.declared.faults.ScenarioFault.TheVariants.{NoParties, BadParties, BadParty, TooManyParties}
 use Rattle.dsa_parties.specs.declared.script.{Act.{Act}, ClientScript.{ClientScript}, Part.{Part}}
 use Rattle.dsa_parties.specs.declared.script.ScriptEntry.{ScriptEntry}
 use Rattle.dsa_parties.specs.declared.script.Script.{Script}
-use Rattle.dsa_plans.specs.declared.faults.PartiesFault.{PartiesFault}
-use Rattle.dsa_plans.specs.declared.faults.PartiesFault.TheVariants.{Missing, BadParties, BadParty, TooMany}
-use Rattle.dsa_plans.specs.declared.faults.PartiesFault.TheVariants.{OutOfMemory}
 use Rattle.dsa_plans.specs.Said.{read_or, items_in, whole_below, each_onto, read_onto}
 use Rattle.dsa_plans.specs.{Submitters.{Submitters, client_onto}, Acting.{Acting, administrator_onto}}
 
@@ -51,7 +49,7 @@ ok_and_then f (Ok x) = f x
 ok_and_then f (Err e) = Err e
 
 -- the parties one after the other, from this number on; the first that cannot be read is bad
-abbrev pub parties_onto : {A : Type 0} → (A → Data → Option A) → ℕ → A → List Data → Result A PartiesFault
+abbrev pub parties_onto : {A : Type 0} → (A → Data → Option A) → ℕ → A → List Data → Result A ScenarioFault
 parties_onto onto number done [] = Ok done
 parties_onto onto number done (d ∷ ds) =
     ok_and_then (λ more. parties_onto onto (number + 1) more ds) (ok_or (onto done d) (BadParty number))
@@ -86,30 +84,20 @@ tables_with engines submitters acting = record {
   engines = engines;
 }
 
-abbrev pub few_tables : Tables → Result Tables PartiesFault
-few_tables t = cond (are_few t) (Ok t) (Err TooMany)
+abbrev pub few_tables : Tables → Result Tables ScenarioFault
+few_tables t = cond (are_few t) (Ok t) (Err TooManyParties)
 
 -- the tables of these parties: clients first, then administrators, counted together
-abbrev pub tables_said : PartyLists → Result Tables PartiesFault
+abbrev pub tables_said : PartyLists → Result Tables ScenarioFault
 tables_said lists = ok_and_then
     (λ submitters. ok_and_then (λ acting. few_tables (tables_with lists.engines submitters acting))
     (parties_onto administrator_onto (length lists.clients) ([], []) lists.administrators))
     (parties_onto client_onto 0 ([], []) lists.clients)
 
 -- the tables of the object `parties`, for a device with so many engines
-abbrev pub script_said : ℕ → Data → Result Tables PartiesFault
+abbrev pub script_said : ℕ → Data → Result Tables ScenarioFault
 script_said count d = ok_and_then tables_said (ok_or (party_lists count d) BadParties)
 
 -- the tables of the parties of a document, for a device with so many engines (profile)
-abbrev pub parties_said : ℕ → Data → Result Tables PartiesFault
-parties_said count document = ok_and_then (script_said count) (ok_or (get (codes "parties") document) Missing)
-
--- ---- faults
-
--- the sentence of a fault (profile)
-abbrev pub parties_fault_text : PartiesFault → List ℕ
-parties_fault_text Missing = codes "no parties"
-parties_fault_text BadParties = codes "bad parties"
-parties_fault_text (BadParty i) = codes "bad party " ++ decimal i
-parties_fault_text TooMany = codes "too many parties"
-parties_fault_text OutOfMemory = codes "out of memory"
+abbrev pub parties_said : ℕ → Data → Result Tables ScenarioFault
+parties_said count document = ok_and_then (script_said count) (ok_or (get (codes "parties") document) NoParties)

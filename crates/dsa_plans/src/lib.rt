@@ -5,12 +5,10 @@
 #![tactic(auto)]
 
 mod acting;
-mod faults;
 mod labels;
 mod plans;
 pub mod rows;
 mod said;
 mod submitters;
 
-pub use faults::PartiesFault;
 pub use plans::{PartyScripts, read_parties};

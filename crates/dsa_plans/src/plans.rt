@@ -5,21 +5,21 @@ ghost use Rattle.std.specs.Prelude.{length, map, option_map, string_bytes, IfErr
 ghost use Rattle.serde_json.specs.{View.{view}, Find.{get}};
 ghost use Rattle.dsa_base.specs.{Rows.{when}, Numbers.{numbers_below}};
 ghost use Rattle.dsa_parties.specs.Scripts.{is_script};
+ghost use Rattle.dsa_scenario.specs.declared.faults.ScenarioFault.{ScenarioFault};
 ghost use Rattle.dsa_plans.specs.Said.{each_onto, read_onto, read_or, whole_below};
 ghost use Rattle.dsa_plans.specs.{Submitters.{client_onto}, Acting.{administrator_onto}};
-ghost use Rattle.dsa_plans.specs.declared.faults.PartiesFault.{PartiesFault};
 ghost use Rattle.dsa_plans.specs.Plans.{are_few, engines_in, few_tables, party_lists, parties_onto};
 ghost use Rattle.dsa_plans.specs.Plans.{parties_said, script_said, tables_of, tables_said};
 ghost use Rattle.dsa_plans.specs.Plans.{tables_with};
 ghost use Rattle.dsa_plans.specs.{PartyLabels.{act_labels, entry_labels}, Reads.{lists_read}};
 
 use crate::acting::add_administrator;
-use crate::faults::PartiesFault;
 use crate::labels::{act_labels, entry_labels};
 use crate::said::{items_in, items_or_none};
 use crate::submitters::add_client;
 use dsa_parties::{Act, ClientScript, Part, Script, ScriptEntry};
 use dsa_regs::Caps;
+use dsa_scenario::ScenarioFault;
 use serde_json::Value;
 use std::alloc::{AllocError, Global};
 
@@ -135,19 +135,19 @@ fn add_clients(
     entries: &mut Vec<ScriptEntry>,
     clients: &mut Vec<ClientScript>,
     objects: &[Value],
-) -> Result<(), PartiesFault>
+) -> Result<(), ScenarioFault>
     ensures ok { OnOk result
         (parties_onto client_onto 0 (entries.old.items, clients.old.items)
         (map view objects.now)
         ≡ Ok (entries.new.items, clients.new.items)) }
-    ensures err { IfErr result (λ e. (e ≡ PartiesFault.OutOfMemory)
+    ensures err { IfErr result (λ e. (e ≡ ScenarioFault.OutOfMemory)
         ⊎ (parties_onto client_onto 0 (entries.old.items, clients.old.items)
         (map view objects.now)
         ≡ Err e)) }
 {
     for (i, object) in objects.iter().enumerate() {
         if !add_client(entries, clients, object)? {
-            return Err(PartiesFault::BadParty(i as u64));
+            return Err(ScenarioFault::BadParty(i as u64));
         }
     }
     Ok(())
@@ -159,20 +159,20 @@ fn add_administrators(
     administrators: &mut Vec<Part>,
     first: u64,
     objects: &[Value],
-) -> Result<(), PartiesFault>
+) -> Result<(), ScenarioFault>
     requires { first + length objects.now < 2 ^ 64 }
     ensures ok { OnOk result
         (parties_onto administrator_onto first (acts.old.items, administrators.old.items)
         (map view objects.now)
         ≡ Ok (acts.new.items, administrators.new.items)) }
-    ensures err { IfErr result (λ e. (e ≡ PartiesFault.OutOfMemory)
+    ensures err { IfErr result (λ e. (e ≡ ScenarioFault.OutOfMemory)
         ⊎ (parties_onto administrator_onto first (acts.old.items, administrators.old.items)
         (map view objects.now)
         ≡ Err e)) }
 {
     for (i, object) in objects.iter().enumerate() {
         if !add_administrator(acts, administrators, object)? {
-            return Err(PartiesFault::BadParty(first + i as u64));
+            return Err(ScenarioFault::BadParty(first + i as u64));
         }
     }
     Ok(())
@@ -185,7 +185,7 @@ fn few_script(
     acts: Vec<Act>,
     administrators: Vec<Part>,
     engines: Vec<u16>,
-) -> Result<Script, PartiesFault>
+) -> Result<Script, ScenarioFault>
     requires { are_few
         (tables_with engines.items (entries.items, clients.items)
         (acts.items, administrators.items))
@@ -203,10 +203,10 @@ fn few_script(
         ≡ Err e) }
 {
     if clients.len() > 16 || administrators.len() > 8 || entries.len() > 256 {
-        return Err(PartiesFault::TooMany);
+        return Err(ScenarioFault::TooManyParties);
     }
     if acts.len() >= 1 << 32 {
-        return Err(PartiesFault::TooMany);
+        return Err(ScenarioFault::TooManyParties);
     }
     let Some(script) = Script::new(entries, clients, acts, administrators, engines) else {
         unreachable!();
@@ -215,10 +215,10 @@ fn few_script(
 }
 
 // The script of these parties.
-fn script_of(alloc: Global, lists: Lists<'_>) -> Result<Script, PartiesFault>
+fn script_of(alloc: Global, lists: Lists<'_>) -> Result<Script, ScenarioFault>
     ensures ok { IfOk result
         (λ script. tables_said (lists_read lists.entry) ≡ Ok (tables_of script)) }
-    ensures err { IfErr result (λ e. (e ≡ PartiesFault.OutOfMemory)
+    ensures err { IfErr result (λ e. (e ≡ ScenarioFault.OutOfMemory)
         ⊎ (tables_said (lists_read lists.entry) ≡ Err e)) }
 {
     let mut entries = Vec::new(alloc);
@@ -232,14 +232,14 @@ fn script_of(alloc: Global, lists: Lists<'_>) -> Result<Script, PartiesFault>
 }
 
 // The script of the object `parties`, for a device with so many engines.
-fn script_in(alloc: Global, engines: u16, object: &Value) -> Result<Script, PartiesFault>
+fn script_in(alloc: Global, engines: u16, object: &Value) -> Result<Script, ScenarioFault>
     ensures ok { IfOk result
         (λ script. script_said engines (view object.now) ≡ Ok (tables_of script)) }
-    ensures err { IfErr result (λ e. (e ≡ PartiesFault.OutOfMemory)
+    ensures err { IfErr result (λ e. (e ≡ ScenarioFault.OutOfMemory)
         ⊎ (script_said engines (view object.now) ≡ Err e)) }
 {
     let Some(lists) = party_lists(alloc, engines, object)? else {
-        return Err(PartiesFault::BadParties);
+        return Err(ScenarioFault::BadParties);
     };
     script_of(alloc, lists)
 }
@@ -273,7 +273,7 @@ pub fn read_parties(
     alloc: Global,
     caps: &Caps,
     document: &Value,
-) -> Result<PartyScripts, PartiesFault>
+) -> Result<PartyScripts, ScenarioFault>
     ensures script { IfOk result
         (λ read. parties_said caps.now.engines (view document.now) ≡ Ok (tables_of read.script)) }
     ensures labels { IfOk result
@@ -282,11 +282,11 @@ pub fn read_parties(
     ensures acts { IfOk result
         (λ read. option_map act_labels (get (codes "parties") (view document.now))
         ≡ Some (map string_bytes read.acts.items)) }
-    ensures err { IfErr result (λ e. (e ≡ PartiesFault.OutOfMemory)
+    ensures err { IfErr result (λ e. (e ≡ ScenarioFault.OutOfMemory)
         ⊎ (parties_said caps.now.engines (view document.now) ≡ Err e)) }
 {
     let Some(object) = document.get("parties") else {
-        return Err(PartiesFault::Missing);
+        return Err(ScenarioFault::NoParties);
     };
     let script = script_in(alloc, caps.engines, object)?;
     let labels = entry_labels(alloc, object)?;

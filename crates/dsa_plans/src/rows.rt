@@ -9,10 +9,10 @@ ghost use Rattle.dsa_parties.specs.declared.script.Outcomes.TheVariants.{PageFau
 ghost use Rattle.dsa_parties.specs.declared.script.RetryPolicy.TheVariants.{GiveUp, Again, AtMost};
 ghost use Rattle.dsa_parties.specs.declared.script.Until.TheVariants.{Once, Finished, Over};
 ghost use Rattle.dsa_regs.specs.declared.Command.TheVariants.{EnableWq};
+ghost use Rattle.dsa_scenario.specs.declared.faults.ScenarioFault.TheVariants as fault;
 ghost use Rattle.dsa_scenario.specs.Worked.{clear_step, command_step, enqcmd_step, fill_text};
 ghost use Rattle.dsa_scenario.specs.Worked.{object_of, poll_step, queue_in_fields, queue_step};
 ghost use Rattle.dsa_scenario.specs.Worked.{step_of_kind, whole};
-ghost use Rattle.dsa_plans.specs.declared.faults.PartiesFault.TheVariants as fault;
 ghost use Rattle.dsa_plans.specs.Said.{busy_said, outcomes_said, retry_said, until_said};
 ghost use Rattle.dsa_plans.specs.Submitters.{client_onto, step_onto};
 ghost use Rattle.dsa_plans.specs.Acting.{act_said, administrator_onto};
@@ -168,7 +168,7 @@ pub fn documents_with_parties()
         ∷ document_with ((codes "clients", whole 1) ∷ [])
         ∷ document_with ((codes "engines", listing (whole 2 ∷ [])) ∷ [])
         ∷ [])
-        ≡ Err fault.Missing ∷ replicate 3 (Err fault.BadParties) }
+        ≡ Err fault.NoParties ∷ replicate 3 (Err fault.BadParties) }
     ensures bad_party { map (parties_said 2)
         (document_for (party [] ∷ null ∷ null ∷ []) (null ∷ [])
         ∷ document_for (party [] ∷ party [] ∷ []) (party [] ∷ null ∷ [])
@@ -177,7 +177,7 @@ pub fn documents_with_parties()
         ≡ Err (fault.BadParty 1) ∷ Err (fault.BadParty 3) ∷ Err (fault.BadParty 16) ∷ [] }
     ensures too_many { map (parties_said 2)
         (document_for (replicate 17 (party [])) [] ∷ document_for [] (replicate 9 (party [])) ∷ [])
-        ≡ replicate 2 (Err fault.TooMany) }
+        ≡ replicate 2 (Err fault.TooManyParties) }
 {}
 
 /// The labels of entries and of acts.

@@ -2,7 +2,9 @@
 use Rattle.std.specs.Prelude.{◌≡◌, ◌≢◌, ℕ, Bool, true, List, ◌++◌, codes, decimal, Result, OnOk, IfErr, IsErrOf}
 use Rattle.dsa_scenario.specs.declared.faults.ScenarioFault.{ScenarioFault, TheVariants.{Read, TooLong, NotJson}}
 use Rattle.dsa_scenario.specs.declared.faults.ScenarioFault.TheVariants.{BadDocument, BadStep, BadCaps, BadCapacity}
-use Rattle.dsa_scenario.specs.declared.faults.ScenarioFault.TheVariants.{Differs, Write, OutOfMemory}
+use Rattle.dsa_scenario.specs.declared.faults.ScenarioFault.TheVariants.{NoParties, BadParties, BadParty}
+use Rattle.dsa_scenario.specs.declared.faults.ScenarioFault.TheVariants.{TooManyParties, BadSetup}
+use Rattle.dsa_scenario.specs.declared.faults.ScenarioFault.TheVariants.{Differs, Incomplete, Write, OutOfMemory}
 
 -- the sentence of a fault (profile)
 abbrev pub fault_text : ScenarioFault → List ℕ
@@ -13,7 +15,13 @@ fault_text BadDocument = codes "bad document"
 fault_text (BadStep i) = codes "bad step " ++ decimal i
 fault_text BadCaps = codes "bad caps"
 fault_text BadCapacity = codes "bad capacity"
+fault_text NoParties = codes "no parties"
+fault_text BadParties = codes "bad parties"
+fault_text (BadParty i) = codes "bad party " ++ decimal i
+fault_text TooManyParties = codes "too many parties"
+fault_text BadSetup = codes "bad set-up"
 fault_text (Differs i) = codes "step " ++ decimal i ++ codes " differs"
+fault_text Incomplete = codes "search incomplete"
 fault_text Write = codes "write failed"
 fault_text OutOfMemory = codes "out of memory"
 

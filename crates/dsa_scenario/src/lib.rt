@@ -41,6 +41,7 @@ pub use reading::MAX_READS;
 pub use rendering::{Render, Rendered, Rendering, render_counted, render_input};
 pub use run::{Record, ask, event_for, note_ticket};
 pub use scenario::{PlainRun, run_scenario};
+pub use script::read_actions;
 pub use sinks::{Kept, PIECE, Sink, StreamSteps, write_piece};
 pub use steps::{Added, Asked, MadeText, RenderSteps, StepMade, render_over, render_steps};
 pub use streaming::{Streamed, stream_counted, stream_input};

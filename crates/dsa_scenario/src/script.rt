@@ -33,8 +33,8 @@ pub struct Script {
     pub actions: Vec<Action>,
 }
 
-// What the step objects ask, or the first that is none.
-fn read_actions(alloc: Global, steps: &[Value]) -> Result<Vec<Action>, ScenarioFault>
+/// What the step objects ask, or the first that is none.
+pub fn read_actions(alloc: Global, steps: &[Value]) -> Result<Vec<Action>, ScenarioFault>
     ensures ok { IfOk result
         (λ actions. map action_of (map view steps.now) ≡ map Some actions.items) }
     ensures bad { IfErr result

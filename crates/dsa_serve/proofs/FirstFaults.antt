@@ -7,8 +7,8 @@ use Rattle.serde_json.specs.{Data.{Data}, Read.{read}}
 use Rattle.dsa_regs.specs.declared.Caps.{Caps}
 use Rattle.dsa_scenario.specs.declared.actions.Action.{Action}
 use Rattle.dsa_scenario.specs.declared.faults.ScenarioFault.{ScenarioFault, TheVariants.{OutOfMemory, BadStep}}
-use Rattle.dsa_scenario.specs.declared.faults.ScenarioFault.TheVariants.{Read, TooLong, NotJson, BadDocument, BadCaps}
-use Rattle.dsa_scenario.specs.declared.faults.ScenarioFault.TheVariants.{BadCapacity, Differs, Write}
+use Rattle.dsa_scenario.specs.declared.faults.ScenarioFault.TheVariants.{NotJson, BadDocument, BadCaps}
+use Rattle.dsa_scenario.specs.declared.faults.ScenarioFault.TheVariants.{BadCapacity}
 use Rattle.dsa_scenario.specs.{Actions.{action_of}, Document.{head_of, HasHead, IsFaultOfHead}}
 use Rattle.dsa_scenario.proofs.Heads.{Head, same_head}
 use Rattle.dsa_expand.specs.Expansion.{HasNoStrictForm}
@@ -50,40 +50,28 @@ headless text caps capacity steps d reads none is =
 
 -- these are faults of no document
 abbrev pub is_none_of_documents : ScenarioFault → Bool
-is_none_of_documents Read = true
-is_none_of_documents TooLong = true
 is_none_of_documents NotJson = false
 is_none_of_documents BadDocument = false
 is_none_of_documents (BadStep i) = false
 is_none_of_documents BadCaps = false
 is_none_of_documents BadCapacity = false
-is_none_of_documents (Differs i) = true
-is_none_of_documents Write = true
-is_none_of_documents OutOfMemory = true
+is_none_of_documents _ = true
 
 none_of_strict : (bytes : List ℕ) (e : ScenarioFault) → is_none_of_documents e ≡ true → ¬ IsFaultOfStrict bytes e
-none_of_strict bytes Read is h = h.0
-none_of_strict bytes TooLong is h = h.0
 none_of_strict bytes NotJson is h = absurd cc
 none_of_strict bytes BadDocument is h = absurd cc
 none_of_strict bytes (BadStep i) is h = absurd cc
 none_of_strict bytes BadCaps is h = absurd cc
 none_of_strict bytes BadCapacity is h = absurd cc
-none_of_strict bytes (Differs i) is h = h.0
-none_of_strict bytes Write is h = h.0
-none_of_strict bytes OutOfMemory is h = h.0
+none_of_strict bytes _ is h = h.0
 
 none_of_forms : (bytes : List ℕ) (e : ScenarioFault) → is_none_of_documents e ≡ true → ¬ HasNoStrictForm bytes e
-none_of_forms bytes Read is h = h.bad.1
-none_of_forms bytes TooLong is h = h.bad.1
 none_of_forms bytes NotJson is h = absurd cc
 none_of_forms bytes BadDocument is h = absurd cc
 none_of_forms bytes (BadStep i) is h = absurd cc
 none_of_forms bytes BadCaps is h = absurd cc
 none_of_forms bytes BadCapacity is h = absurd cc
-none_of_forms bytes (Differs i) is h = h.bad.1
-none_of_forms bytes Write is h = h.bad.1
-none_of_forms bytes OutOfMemory is h = h.bad.1
+none_of_forms bytes _ is h = h.bad.1
 
 pub none_of_first : (is_friendly : Bool) (first : List ℕ) (e : ScenarioFault) → is_none_of_documents e ≡ true
     → ¬ IsFaultOfFirst is_friendly first e

@@ -11,7 +11,6 @@ use Rattle.dsa_scenario.specs.declared.faults.ScenarioFault.{ScenarioFault}
 use Rattle.dsa_scenario.specs.declared.faults.ScenarioFault.{TheVariants.{Read, Write, OutOfMemory}}
 use Rattle.dsa_scenario.specs.declared.faults.ScenarioFault.TheVariants.{TooLong, NotJson}
 use Rattle.dsa_scenario.specs.declared.faults.ScenarioFault.TheVariants.{BadDocument, BadStep}
-use Rattle.dsa_scenario.specs.declared.faults.ScenarioFault.TheVariants.{Differs}
 use Rattle.dsa_scenario.specs.declared.faults.ScenarioFault.TheVariants.{BadCaps, BadCapacity}
 use Rattle.dsa_serve.specs.declared.{dialogue.Dialogue.{Dialogue}, session.Session.{Session}}
 use Rattle.dsa_serve.specs.declared.ending.Inside.TheVariants.{Brackets}
@@ -241,16 +240,12 @@ module _ (is_friendly : Bool) (room : ℕ) (had left held : Option (List ℕ)) (
     (at_end : ended ≡ true → IsAtEnd left) (less : length behind ≤ room) where
   fault_stops : (e : ScenarioFault) → IsFaultOfFirst is_friendly first e
       → IsStoppedWithin is_friendly room e had left held held
-  fault_stops Read h = absurd (none_of_first is_friendly first Read refl h)
-  fault_stops TooLong h = absurd (none_of_first is_friendly first TooLong refl h)
-  fault_stops Write h = absurd (none_of_first is_friendly first Write refl h)
-  fault_stops (Differs i) h = absurd (none_of_first is_friendly first (Differs i) refl h)
-  fault_stops OutOfMemory h = absurd (none_of_first is_friendly first OutOfMemory refl h)
   fault_stops NotJson h = (input, first, behind, ended, reads, split, at_end, less, h, Appends-nil held)
   fault_stops BadDocument h = (input, first, behind, ended, reads, split, at_end, less, h, Appends-nil held)
   fault_stops (BadStep i) h = (input, first, behind, ended, reads, split, at_end, less, h, Appends-nil held)
   fault_stops BadCaps h = (input, first, behind, ended, reads, split, at_end, less, h, Appends-nil held)
   fault_stops BadCapacity h = (input, first, behind, ended, reads, split, at_end, less, h, Appends-nil held)
+  fault_stops e h = absurd (none_of_first is_friendly first e refl h)
 
 -- the same, or want of memory before the first line is judged
 pub opening_stops : (is_friendly : Bool) (room : ℕ) (had left held : Option (List ℕ))

@@ -19,7 +19,9 @@ returns c =
     ∙ ap₂ with_subcommand five (ap top c.in_ok-conform_command.ensures.app) in
     let seven = c.in_ok-subcommand-7.ensures.shape c.plain_command-2.ensures.local
     ∙ ap₂ with_subcommand six (ap top c.plain_command-2.ensures.app) in
-    let eight = c.in_ok-subcommand-8.ensures.shape c.in_ok-serve_command.ensures.local
-    ∙ ap₂ with_subcommand seven (ap top c.in_ok-serve_command.ensures.app) in
-    IfOk-weaker c.subcommand-9.result _ _ (λ command h. h.shape c.in_ok-threads_command.ensures.local
-    ∙ ap₂ with_subcommand eight (ap top c.in_ok-threads_command.ensures.app)) c.subcommand-9.ensures
+    let eight = c.in_ok-subcommand-8.ensures.shape c.in_ok-explore_command.ensures.local
+    ∙ ap₂ with_subcommand seven (ap top c.in_ok-explore_command.ensures.app) in
+    let nine = c.in_ok-subcommand-9.ensures.shape c.in_ok-serve_command.ensures.local
+    ∙ ap₂ with_subcommand eight (ap top c.in_ok-serve_command.ensures.app) in
+    IfOk-weaker c.subcommand-10.result _ _ (λ command h. h.shape c.in_ok-threads_command.ensures.local
+    ∙ ap₂ with_subcommand nine (ap top c.in_ok-threads_command.ensures.app)) c.subcommand-10.ensures

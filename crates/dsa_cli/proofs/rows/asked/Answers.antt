@@ -12,7 +12,7 @@ use Rattle.dsa_cli.specs.declared.options.WrongValue.TheVariants.{Answer}
 use Rattle.clap.specs.Kinds.{IsAmong}
 use Rattle.dsa_cli.specs.{CommandLine.{IsMistaken, IsReportName, faults_of_words}, Worked.{load, lent_text}}
 use Rattle.dsa_cli.proofs.Choices.{first_given, first_left_out, lines_form, table_form, when_given, when_left_out}
-use Rattle.dsa_cli.proofs.DecidedLoads.{said_numbers}
+use Rattle.dsa_cli.proofs.DecidedLoads.{said_bounds, said_numbers}
 use Rattle.dsa_cli.proofs.LinesChosen.{none_chosen, says_given}
 use Rattle.dsa_cli.proofs.ReportNames.{name_in, same_first, no_report}
 
@@ -152,6 +152,34 @@ returns-clause-no_own_explain c asks =
 pub returns-clause-count : goal.returns-clause-count
 unfolding clap_on_literals
 returns-clause-count c = (_, (refl, refl, inr (inr (inr (inl refl)))), refl)
+
+pub returns-clause-explore : goal.returns-clause-explore
+unfolding clap_on_literals
+returns-clause-explore c =
+    (_, (refl, refl, inr (inr (inr (inr (inr (inr (inr refl))))))), (refl, said_bounds _ _ refl refl))
+
+pub returns-clause-few_states : goal.returns-clause-few_states
+unfolding clap_on_literals
+returns-clause-few_states c =
+    (_, (refl, refl, inr (inr (inr (inr (inr (inr (inr refl))))))), (refl, said_bounds _ _ refl refl))
+
+pub returns-clause-long_keys : goal.returns-clause-long_keys
+unfolding clap_on_literals
+returns-clause-long_keys c =
+    (_, (refl, refl, inr (inr (inr (inr (inr (inr (inr refl))))))), (refl, said_bounds _ _ refl refl))
+
+pub returns-clause-other_states : goal.returns-clause-other_states
+unfolding clap_on_literals
+returns-clause-other_states c asks =
+    let has : one_of (codes "states") asks.0.1 ≡ Some (codes "100000") =
+    ap (option_in (codes "states")) (sym asks.1.1) in
+    let digits : IsNumeral 10 (codes "100000") =
+    (lit< tt, (lit< tt, (lit< tt, (lit< tt, (lit< tt, (lit< tt, (lit< tt, tt))))))) in
+    omega (arith, asks.2.1.states (codes "100000") has digits (lit≤ tt) (lit≤ tt))
+
+pub returns-clause-other_search : goal.returns-clause-other_search
+unfolding clap_on_literals
+returns-clause-other_search c asks = omega (arith, same_first (ap name_in asks.1.1 ∙ asks.2.0))
 
 pub returns-clause-draw : goal.returns-clause-draw
 unfolding clap_on_literals

@@ -1,9 +1,10 @@
 use Rattle.dsa_cli.proofs.rows.names_of_reports.Goals as goal
-use Rattle.std.proofs.Common.{codes, Option, inl, inr, refl, lit<, ap, arith}
+use Rattle.std.proofs.Common.{codes, Option, inl, inr, refl, lit<, lit≤, ap, arith}
 use Rattle.std.specs.Option.{option_map_or}
 use Rattle.dsa_draw.specs.declared.range.StepRange.{StepRange}
 use Rattle.clap.proofs.OnLiterals.{clap_on_literals}
 use Rattle.dsa_cli.proofs.Choices.{first_given, first_left_out, lines_form, table_form, when_given, when_left_out}
+use Rattle.dsa_cli.proofs.DecidedLoads.{said_bounds}
 use Rattle.dsa_cli.proofs.LinesChosen.{none_chosen}
 use Rattle.dsa_cli.proofs.ReportNames.{same_first, no_report}
 
@@ -33,7 +34,11 @@ returns-clause-conform c = inr (inr (inr (inr (inr (inl refl)))))
 
 pub returns-clause-expand : goal.returns-clause-expand
 unfolding clap_on_literals
-returns-clause-expand c = inr (inr (inr (inr (inr (inr refl)))))
+returns-clause-expand c = inr (inr (inr (inr (inr (inr (inl refl))))))
+
+pub returns-clause-explore : goal.returns-clause-explore
+unfolding clap_on_literals
+returns-clause-explore c = inr (inr (inr (inr (inr (inr (inr refl))))))
 
 pub returns-clause-asks_check : goal.returns-clause-asks_check
 unfolding clap_on_literals
@@ -130,6 +135,20 @@ returns-clause-asks_friendly c = (refl, when_left_out refl, when_given refl)
 pub returns-clause-no_friendly : goal.returns-clause-no_friendly
 unfolding clap_on_literals
 returns-clause-no_friendly c asked = let same = asked.2.left_out refl in cc
+
+pub returns-clause-asks_explore : goal.returns-clause-asks_explore
+unfolding clap_on_literals
+returns-clause-asks_explore c = (refl, said_bounds _ _ refl refl)
+
+pub returns-clause-other_bounds : goal.returns-clause-other_bounds
+unfolding clap_on_literals
+returns-clause-other_bounds c asked =
+    omega (arith, asked.1.states (codes "7") refl (lit< tt, (lit< tt, tt)) (lit≤ tt) (lit≤ tt))
+
+pub returns-clause-other_key_bytes : goal.returns-clause-other_key_bytes
+unfolding clap_on_literals
+returns-clause-other_key_bytes c asked =
+    omega (arith, asked.1.key_bytes (codes "9") refl (lit< tt, (lit< tt, tt)) (lit≤ tt) (lit≤ tt))
 
 pub returns-clause-asks_wide : goal.returns-clause-asks_wide
 unfolding clap_on_literals

@@ -78,6 +78,19 @@ returns-clause-past_bounds c = (
   numbers_of _ _ refl,
 )
 
+pub returns-clause-bounds : goal.returns-clause-bounds
+unfolding clap_on_literals
+returns-clause-bounds c states key_bytes are = (
+  are.states (codes "1") refl (lit< tt, (lit< tt, tt)) (lit≤ tt) (lit≤ tt),
+  are.key_bytes (codes "256") refl (lit< tt, (lit< tt, (lit< tt, (lit< tt, tt)))) (lit≤ tt) (lit≤ tt),
+)
+
+pub returns-clause-most_states : goal.returns-clause-most_states
+unfolding clap_on_literals
+returns-clause-most_states c states are = are.states (codes "16777216") refl
+    (lit< tt, (lit< tt, (lit< tt, (lit< tt, (lit< tt, (lit< tt, (lit< tt, (lit< tt, (lit< tt, tt)))))))))
+    (lit≤ tt) (lit≤ tt)
+
 pub returns-clause-all : goal.returns-clause-all
 returns-clause-all c rows asked numbers = (
   numbers.clients,

@@ -30,6 +30,9 @@ returns-clause-totals c bytes text is = is.1
 pub returns-clause-drawing : goal.returns-clause-drawing
 returns-clause-drawing c bytes text is = is.1
 
+pub returns-clause-exploration : goal.returns-clause-exploration
+returns-clause-exploration c bytes text is = is
+
 pub returns-clause-conformance : goal.returns-clause-conformance
 returns-clause-conformance c bytes text is = is
 

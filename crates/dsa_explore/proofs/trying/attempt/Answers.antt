@@ -1,12 +1,13 @@
 use Rattle.dsa_explore.proofs.trying.attempt.Goals as goal
-use Rattle.std.proofs.Common.{◌∙◌, ℕ, List, ap, subst, drop, length}
+use Rattle.std.proofs.Common.{◌∙◌, ℕ, List, ap, subst, drop, length, map}
 use Rattle.dsa_book.specs.declared.fate.FateRow.{FateRow}
+use Rattle.dsa_explore.specs.declared.stored.Node.{Node}
 use Rattle.dsa_explore.specs.{Findings.{labels_waited_for}, Rows.{labels_of}, Stored.{IsStoredAt}}
 use Rattle.dsa_explore.specs.Walked.{space_of, world_of}
-use Rattle.dsa_explore.proofs.{Noted.{noted-rows, attempted, added-as}, Lawful.{space-lawful}}
+use Rattle.dsa_explore.proofs.{Noted.{noted-table, attempted, added-as}, Lawful.{byte-keys, space-lawful}}
 
-pub returns-in_default-2 : goal.returns-in_default-2
-returns-in_default-2 c = λ first table x is there.
+pub returns-in_default-2-clause-step : goal.returns-in_default-2-clause-step
+returns-in_default-2-clause-step c = λ first table x is there.
     let caps = c.args.plan.now.caps in
     let script = c.args.plan.now.script.now in
     let step = rw c.in-Some.is at c.in_ok-reply.ensures.leads in
@@ -20,12 +21,14 @@ returns-in_default-2 c = λ first table x is there.
     c.make.new.walked.labels.items c.in-Some.reply c.in-Some-ends_since.ends.now _ c.as_slice.result.now _
     c.args.search.now.rows.items c.note.new.search.rows.items c.ask_of-ask.ensures labels ends awaited
     c.in_ok-at.ensures.rows in
-    noted-rows (space_of caps script) (space-lawful caps script) first c.args.search.now c.note.new.search table
+    let unstored = rw c.in_default-2.is at c.in_ok-at.ensures.unstored in
+    noted-table (space_of caps script) (space-lawful caps script) byte-keys first c.args.search.now c.note.new.search table
     c.args.number x is (world_of c.args.walked.now) (world_of c.make.new.walked) c.args.tried.by c.in-Some.reply there
-    step added c.in_ok-at.ensures.front
+    step added c.in_ok-at.ensures.front (ap (λ t. t.strings) unstored.0)
+    (ap (λ n. map (λ (node : Node). node.level) n.items) unstored.1)
 
-pub returns : goal.returns
-returns c = λ first table x is there.
+pub returns-clause-step : goal.returns-clause-step
+returns-clause-step c = λ first table x is there.
     let caps = c.args.plan.now.caps in
     let script = c.args.plan.now.script.now in
     let step = rw c.in-Some.is at c.in_ok-reply.ensures.leads in
@@ -41,7 +44,7 @@ returns c = λ first table x is there.
     c.in_ok-at.ensures.rows in
     let bytes = c.as_slice-2.ensures.value ∙ c.in_ok-write_world.ensures c.if-not-branch.false in
     let at = rw c.in-Some-2.is at c.in_ok-at.ensures.stored in
-    attempted (space_of caps script) (space-lawful caps script) first c.args.search.now c.note.new.search table
+    attempted (space_of caps script) (space-lawful caps script) byte-keys first c.args.search.now c.note.new.search table
     c.args.number x is (world_of c.args.walked.now) (world_of c.make.new.walked) c.args.tried.by c.in-Some.reply there
     step added c.in_ok-at.ensures.front c.args.tried.queue c.in-Some-2.at
     (subst (λ (k : List ℕ). IsStoredAt c.args.search.now k c.in-Some-2.at c.note.new.search) bytes at)

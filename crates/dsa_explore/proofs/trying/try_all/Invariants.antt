@@ -6,9 +6,10 @@ use Rattle.dsa_explore.proofs.trying.try_all.Given as goal
 
 -- those before were tried, and the device stands there if it is said to
 abbrev pub invariant-loop-tried : goal.invariant-loop-tried
-invariant-loop-tried l = (first : World Standing) → (table : List (Stored Standing)) → (x : Stored Standing)
+invariant-loop-tried l = ((first : World Standing) → (table : List (Stored Standing)) → (x : Stored Standing)
     → IsAt (space_of l.plan.caps l.plan.script.now) first l.fn.search table l.number x
     → IsThere (space_of l.plan.caps l.plan.script.now) x (world_of l.fn.at_first)
     → AreTried (space_of l.plan.caps l.plan.script.now) first l.fn.search table l.number x
     (take l.tried-index l.tries) l.search
-    × (l.is_there ≡ true → IsThere (space_of l.plan.caps l.plan.script.now) x (world_of l.walked))
+    × (l.is_there ≡ true → IsThere (space_of l.plan.caps l.plan.script.now) x (world_of l.walked)))
+    × (l.search.seen.most ≡ l.fn.search.seen.most)

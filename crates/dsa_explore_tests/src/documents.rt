@@ -1,0 +1,194 @@
+//! The texts that searches of documents give: each document has a set-up and parties.
+
+use dsa_exploration::{Bounds, Exploring};
+use dsa_scenario::{Render, Rendered, ScenarioFault};
+use std::alloc::{AllocError, Global};
+use std::process::Abort;
+
+// A device of one queue and one engine.
+const HEAD: &str = concat!(
+    r#"{"caps":{"queues":1,"groups":1,"engines":1,"total_size":8,"read_buffers":32,"slots":2,"#,
+    r#""max_batch_shift":3,"max_xfer_shift":20},"capacity":9,"steps":["#,
+);
+
+// Both are enabled.
+const ENABLED: &str = concat!(
+    r#"{"do":"queue","queue":0,"size":4,"threshold":2,"dedicated":false,"priority":1,"pasid":0,"#,
+    r#""batch":3,"xfer":20},"#,
+    r#"{"do":"group","group":0,"queues":1,"engines":1,"reserved":0,"allowed":32},"#,
+    r#"{"do":"command","word":1048576},{"do":"command","word":6291456}"#,
+);
+
+// A Move of 4096 bytes.
+const MOVE: &str = concat!(
+    r#"{"do":"enqcmd","queue":0,"limited":true,"pasid":1,"as":"x","desc":""#,
+    r#"000000000000000300000000000000000000000000000000000000000000000000100000"}"#,
+);
+
+// The same as a step of a run.
+const SUBMITTED: &str = concat!(
+    r#",{"do":"enqcmd","client":0,"queue":0,"limited":true,"pasid":1,"desc":""#,
+    r#"000000000000000300000000000000000000000000000000000000000000000000100000"}"#,
+);
+
+const DRAIN: &str = r#"{"do":"command","word":3145728},{"do":"poll","until":"finished"}"#;
+
+// Bounds in which all is found.
+const ENOUGH: Bounds = Bounds {
+    states: 100,
+    key_bytes: 1000,
+};
+
+// The parts one after the other.
+fn joined(alloc: Global, parts: &[&str]) -> Result<String, AllocError> {
+    let mut text = String::new(alloc);
+    for part in parts {
+        text.push_str(part)?;
+    }
+    Ok(text)
+}
+
+// What a search of this document gives.
+fn searched(rt: &impl Abort, alloc: Global, bounds: Bounds, parts: &[&str]) -> Rendered {
+    match joined(alloc, parts) {
+        Ok(document) => (Exploring { bounds }).render(alloc, document.as_bytes()),
+        Err(_) => panic!(rt; "there is no memory"),
+    }
+}
+
+// What a document with this set-up and these parties is to give: a text, and the fault after it.
+#[derive(Clone, Copy)]
+struct Given {
+    bounds: Bounds,
+    setup: &'static str,
+    parties: &'static [&'static str],
+    text: &'static str,
+    fault: Option<ScenarioFault>,
+}
+
+fn gives(rt: &impl Abort, alloc: Global, given: &Given) {
+    let mut parts = Vec::new(alloc);
+    let _ = parts.extend_from_slice(&[HEAD, ENABLED, given.setup, "]"]);
+    let _ = parts.extend_from_slice(given.parties);
+    let _ = parts.push("}");
+    match searched(rt, alloc, given.bounds, parts.as_slice()) {
+        Ok(rendering) => {
+            assert_eq!(rt; rendering.text.as_str(), given.text);
+            assert_eq!(rt; rendering.fault, given.fault);
+        }
+        Err(_) => panic!(rt; "there is no text"),
+    }
+}
+
+const ONE_CLIENT: &[&str] = &[r#","parties":{"clients":[{"steps":["#, MOVE, "]}]}"];
+
+// A search that is complete, and one that may store two states.
+#[test]
+fn one_client(rt: HostRuntime) {
+    let given = Given {
+        bounds: ENOUGH,
+        setup: "",
+        parties: ONE_CLIENT,
+        text: "x: accepted [1], completed 01 [3]\n4 states, 11 steps, depth 3, complete\n",
+        fault: None,
+    };
+    gives(&rt, rt.alloc(), &given);
+    let bounds = Bounds {
+        states: 2,
+        ..ENOUGH
+    };
+    let bounded = Given {
+        bounds,
+        text: "x: accepted [1]\n2 states, 4 steps, depth 1, bounded\n",
+        fault: Some(ScenarioFault::Incomplete),
+        ..given
+    };
+    gives(&rt, rt.alloc(), &bounded);
+}
+
+// A client, and an administrator who drains and polls.
+#[test]
+fn one_client_and_a_drain(rt: HostRuntime) {
+    let given = Given {
+        bounds: ENOUGH,
+        setup: "",
+        parties: &[
+            r#","parties":{"clients":[{"steps":["#,
+            MOVE,
+            r#"]}],"admins":[{"steps":["#,
+            DRAIN,
+            "]}]}",
+        ],
+        text: concat!(
+            "x: accepted [1], completed 01 [3]\n",
+            "A0: ended 0 [1], active [2]; waits for x [2]\n",
+            "A1: nothing [2], active [3], finished [5]\n",
+            "12 states, 43 steps, depth 5, complete\n",
+        ),
+        fault: None,
+    };
+    gives(&rt, rt.alloc(), &given);
+}
+
+// A document with this set-up and these parties gives no text, and this fault.
+fn has(
+    rt: &impl Abort,
+    alloc: Global,
+    setup: &'static str,
+    parties: &'static [&'static str],
+    fault: ScenarioFault,
+) {
+    let given = Given {
+        bounds: ENOUGH,
+        setup,
+        parties,
+        text: "",
+        fault: Some(fault),
+    };
+    gives(rt, alloc, &given);
+}
+
+#[test]
+fn an_entry_that_came_in(rt: HostRuntime) {
+    has(
+        &rt,
+        rt.alloc(),
+        SUBMITTED,
+        ONE_CLIENT,
+        ScenarioFault::BadSetup,
+    );
+}
+
+#[test]
+fn parties_at_fault(rt: HostRuntime) {
+    has(&rt, rt.alloc(), "", &[], ScenarioFault::NoParties);
+    has(
+        &rt,
+        rt.alloc(),
+        "",
+        &[r#","parties":[]"#],
+        ScenarioFault::BadParties,
+    );
+    let second = &[
+        r#","parties":{"clients":[{"steps":["#,
+        MOVE,
+        r#"]}],"admins":[{}]}"#,
+    ];
+    has(&rt, rt.alloc(), "", second, ScenarioFault::BadParty(1));
+    has(
+        &rt,
+        rt.alloc(),
+        SUBMITTED,
+        second,
+        ScenarioFault::BadParty(1),
+    );
+}
+
+// What a plain run is told is a fault without a text.
+#[test]
+fn a_document_at_fault(rt: HostRuntime) {
+    let Err(fault) = searched(&rt, rt.alloc(), ENOUGH, &[HEAD, "1]}"]) else {
+        panic!(&rt; "there is no fault");
+    };
+    assert_eq!(&rt; fault, ScenarioFault::BadStep(0));
+}

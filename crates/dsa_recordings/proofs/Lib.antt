@@ -1,0 +1,9 @@
+pub mod Objects
+pub mod Plain
+pub mod Descriptors
+pub mod Words
+pub mod StepObjects
+pub mod ReadBack
+pub mod Lines
+pub mod Adding
+pub mod Askable

@@ -1,0 +1,4 @@
+pub mod Texts
+pub mod Recordings
+pub mod Reading
+pub mod Worked
