@@ -27,6 +27,7 @@ ALLOWED = {
     "no_caps": "the caps of no shared device; in dsa_scenario's worked rows those without a queue",
     "polled": "a step in dsa_worked's rows; in dsa_scenario's worked rows a list of records",
     "poll_text": "the text of a poll's answer; in dsa_scenario's worked rows a document that polls",
+    "put_all": "members put over others; in dsa_scenario those of a text, one after the other",
 }
 # The line that gives a name its type. Words as 'pub' may come before it, and arguments before ':'.
 SIGNATURE = re.compile(

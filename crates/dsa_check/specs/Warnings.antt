@@ -27,9 +27,9 @@ names_of rows = map (λ row. row.0) rows
 abbrev pub remark_names : List (List ℕ)
 remark_names = codes "note" ∷ []
 
--- what a document may have beside the keys that a run reads: the parties of a search, and a remark
+-- what a document may have beside the keys that a run reads: the parties of a search, its questions, and a remark
 abbrev pub document_names : List (List ℕ)
-document_names = codes "parties" ∷ remark_names
+document_names = codes "parties" ∷ codes "never" ∷ codes "sometimes" ∷ remark_names
 
 -- what a step may have beside the keys of its kind: the kind, what another device was seen to answer, and a remark
 abbrev pub step_names : List (List ℕ)

@@ -56,8 +56,9 @@ const NAME: Field = Field {
 // The key of a remark, which any object may have.
 const REMARK_NAMES: [&str; 1] = ["note"];
 
-// The keys of a document beside those that a run reads: the parties of a search, and a remark.
-const DOCUMENT_NAMES: [&str; 2] = ["parties", "note"];
+// The keys of a document beside those that a run reads: the parties of a search, its questions, and
+// a remark.
+const DOCUMENT_NAMES: [&str; 4] = ["parties", "never", "sometimes", "note"];
 
 // The keys of a step beside those of its kind.
 const STEP_NAMES: [&str; 4] = ["do", "answer", "zf", "note"];

@@ -3,11 +3,12 @@ use Rattle.dsa_cli.specs.declared.options.Asked.TheVariants as asked
 use Rattle.dsa_cli.specs.declared.reports.Report.TheVariants as report
 use Rattle.std.proofs.Common.{◌≡◌, ◌<◌, ◌≤◌, ◌∙◌, ◌⊎◌, inl, inr, ℕ, List, Some, None, codes, option_map}
 use Rattle.std.proofs.Common.{get_or, refl, Result, Ok}
-use Rattle.std.proofs.Common.{[], Option, unwrap_or, sym, ap, subst, arith}
+use Rattle.std.proofs.Common.{[], Option, unwrap_or, sym, ap, subst, arith, true, false}
+use Rattle.std.specs.Prelude.{is_some}
 use Rattle.std.specs.{Option.{option_map_or}, Str.Parse.{digits_value, without_leading_plus}}
 use Rattle.clap.specs.Walk.{Row, Text}
 use Rattle.dsa_cli.specs.declared.{options.{Asked.{Asked}, Workload.{Workload}}, reports.Report.{Report}}
-use Rattle.dsa_cli.specs.declared.options.WrongValue.{WrongValue, TheVariants.{Answer, Range}}
+use Rattle.dsa_cli.specs.declared.options.WrongValue.{WrongValue, TheVariants.{Answer, Range, ShowAndJson}}
 use Rattle.dsa_draw.specs.Ranges.{all_steps, range_of_text}
 use Rattle.dsa_cli.specs.CommandLine.{AreNumbersOf, AskWrongValue, AsksBy, AsksFor, IsAskedBy}
 use Rattle.dsa_cli.specs.CommandLine.{IsNumberOf, IsWrongIn, NameNothing}
@@ -91,6 +92,9 @@ no_report_of found (Answer word) report.Expand wrong by =
 no_report_of found (Answer word) (report.Explore exploring) wrong by =
     let both : codes "explain" ≡ codes "explore" = sym wrong.0 ∙ by.0 in
     omega (arith, ap (λ (t : Text). get_or t 4 0) both)
+no_report_of found (Answer word) (report.Show showing) wrong by =
+    let both : codes "explain" ≡ codes "explore" = sym wrong.0 ∙ by.0 in
+    omega (arith, ap (λ (t : Text). get_or t 4 0) both)
 no_report_of found (Range text) (report.Check check) wrong by = omega (arith, same_first (sym wrong.0 ∙ by.0))
 no_report_of found (Range text) (report.Explain selection run) wrong by = omega (arith, same_first (sym wrong.0 ∙ by.0))
 no_report_of found (Range text) (report.Trace form run) wrong by = omega (arith, same_first (sym wrong.0 ∙ by.0))
@@ -104,12 +108,33 @@ no_report_of found (Range text) (report.Conform conformance written) wrong by =
     omega (arith, same_first (sym wrong.0 ∙ by.0))
 no_report_of found (Range text) report.Expand wrong by = omega (arith, same_first (sym wrong.0 ∙ by))
 no_report_of found (Range text) (report.Explore exploring) wrong by = omega (arith, same_first (sym wrong.0 ∙ by.0))
+no_report_of found (Range text) (report.Show showing) wrong by = omega (arith, same_first (sym wrong.0 ∙ by.0))
+no_report_of found ShowAndJson (report.Check check) wrong by = omega (arith, same_first (sym wrong.0 ∙ by.0))
+no_report_of found ShowAndJson (report.Explain selection run) wrong by =
+    let both : codes "explore" ≡ codes "explain" = sym wrong.0 ∙ by.0 in
+    omega (arith, ap (λ (t : Text). get_or t 4 0) both)
+no_report_of found ShowAndJson (report.Trace form run) wrong by = omega (arith, same_first (sym wrong.0 ∙ by.0))
+no_report_of found ShowAndJson (report.Chrome run) wrong by = omega (arith, same_first (sym wrong.0 ∙ by.0))
+no_report_of found ShowAndJson report.Count wrong by = omega (arith, same_first (sym wrong.0 ∙ by))
+no_report_of found ShowAndJson (report.Draw drawing run) wrong by = omega (arith, same_first (sym wrong.0 ∙ by.0))
+no_report_of found ShowAndJson (report.Conform conformance written) wrong by =
+    omega (arith, same_first (sym wrong.0 ∙ by.0))
+no_report_of found ShowAndJson report.Expand wrong by =
+    let both : codes "explore" ≡ codes "expand" = sym wrong.0 ∙ by in
+    cc
+no_report_of found ShowAndJson (report.Explore exploring) wrong by =
+    let none : false ≡ true = sym (ap is_some by.2) ∙ wrong.1 in
+    cc
+no_report_of found ShowAndJson (report.Show showing) wrong by =
+    let none : false ≡ true = sym by.3 ∙ wrong.2 in
+    cc
 
 -- what the words name, where a value is wrong
 no_other_name : (found : Text × List Row) (value : WrongValue) (name : Text) → 114 < get_or name 0 0
     → IsWrongIn found value → name ≡ found.0 → ⊥
 no_other_name found (Answer word) name high wrong same = omega (arith, same_first (same ∙ wrong.0), high)
 no_other_name found (Range text) name high wrong same = omega (arith, same_first (same ∙ wrong.0), high)
+no_other_name found ShowAndJson name high wrong same = omega (arith, same_first (same ∙ wrong.0), high)
 
 -- a command has one wrong value at most
 same_text : (found : Text × List Row) (one other : WrongValue) → IsWrongIn found one → IsWrongIn found other
@@ -118,6 +143,15 @@ same_text found (Answer one) (Answer other) is wrong =
     ap (λ o. unknown_answer_text (unwrap_or o [])) (sym is.1 ∙ wrong.1)
 same_text found (Range one) (Range other) is wrong =
     ap (λ o. unknown_range_text (unwrap_or o [])) (sym is.1 ∙ wrong.1)
+same_text found ShowAndJson ShowAndJson is wrong = refl
+same_text found ShowAndJson (Range other) is wrong = absurd (omega (arith, same_first (sym is.0 ∙ wrong.0)))
+same_text found (Range one) ShowAndJson is wrong = absurd (omega (arith, same_first (sym is.0 ∙ wrong.0)))
+same_text found ShowAndJson (Answer other) is wrong =
+    let both : codes "explore" ≡ codes "explain" = sym is.0 ∙ wrong.0 in
+    absurd (omega (arith, ap (λ (t : Text). get_or t 4 0) both))
+same_text found (Answer one) ShowAndJson is wrong =
+    let both : codes "explain" ≡ codes "explore" = sym is.0 ∙ wrong.0 in
+    absurd (omega (arith, ap (λ (t : Text). get_or t 4 0) both))
 same_text found (Answer one) (Range other) is wrong = absurd (omega (arith, same_first (sym is.0 ∙ wrong.0)))
 same_text found (Range one) (Answer other) is wrong = absurd (omega (arith, same_first (sym is.0 ∙ wrong.0)))
 
@@ -157,6 +191,7 @@ other_name found (report.Draw drawing run) by none same = omega (arith, same_fir
 other_name found (report.Conform conformance written) by none same = omega (arith, same_second (sym by.0 ∙ same))
 other_name found report.Expand by none same = omega (arith, same_first (sym by ∙ same))
 other_name found (report.Explore exploring) by none same = omega (arith, same_first (sym by.0 ∙ same))
+other_name found (report.Show showing) by none same = omega (arith, same_first (sym by.0 ∙ same))
 
 -- they name it whatever their matches are
 command : (words : List Text) (rows : List Row) → NameThreads words rows → command_in words ≡ Some (codes "threads")

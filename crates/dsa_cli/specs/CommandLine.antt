@@ -2,8 +2,9 @@
 use Rattle.dsa_cli.specs.declared.reports.Report.TheVariants as report
 use Rattle.dsa_cli.specs.declared.options.Asked.TheVariants as asked
 use Rattle.dsa_check.specs.declared.checking.CheckForm.TheVariants as check_form
+use Rattle.dsa_exploration.specs.declared.exploration.Form.TheVariants as exploration
 use Rattle.std.specs.Prelude.{◌≡◌, ◌≢◌, ◌⊎◌, ◌<◌, ◌≤◌, ℕ, pos, Bool, true, false, List, [], ◌∷◌, ◌++◌}
-use Rattle.std.specs.Prelude.{length, take, fold, codes, decimal}
+use Rattle.std.specs.Prelude.{length, take, fold, codes, decimal, bytes_eq, is_some, if◌then◌else◌}
 use Rattle.std.specs.Prelude.{Option, Some, None, option_and_then, option_map}
 use Rattle.std.specs.{List.{join_by}, Option.{option_map_or}}
 use Rattle.std.specs.Io.KnownBytes.{Appends}
@@ -24,6 +25,7 @@ use Rattle.dsa_conform.specs.declared.rendering.Conformance.{Conformance}
 use Rattle.dsa_draw.specs.{declared.range.StepRange.{StepRange}, Ranges.{all_steps, range_of_text}}
 use Rattle.dsa_chosen.specs.{declared.selection.Selection.{Selection}, Words.{answer_words, unknown_word}}
 use Rattle.dsa_explore.specs.declared.search.Bounds.{Bounds}
+use Rattle.dsa_exploration.specs.declared.exploration.Form.{Form}
 use Rattle.dsa_serve.specs.Dialogue.{IsAllAnswered, IsLate, IsStopped}
 use Rattle.dsa_cli.specs.Reports.{IsReported, IsReportCutShort, IsReportBegun}
 use Rattle.dsa_cli.specs.declared.reports.{Report.{Report}, Run.{Run, TheVariants.{Own, Seen}}}
@@ -33,7 +35,7 @@ use Rattle.dsa_cli.specs.declared.options.Workload.{Workload}
 use Rattle.dsa_cli.specs.declared.options.Asked.{Asked}
 use Rattle.dsa_cli.specs.declared.options.Asked.TheVariants.{Scenario, Serve, Threads}
 use Rattle.dsa_cli.specs.declared.options.Asked.TheVariants.{HighThreshold}
-use Rattle.dsa_cli.specs.declared.options.WrongValue.{WrongValue, TheVariants.{Answer, Range}}
+use Rattle.dsa_cli.specs.declared.options.WrongValue.{WrongValue, TheVariants.{Answer, Range, ShowAndJson}}
 
 -- the option `--name`, which has a value
 abbrev pub text_rule : Text → Rule
@@ -86,7 +88,8 @@ serve_app = command_app (codes "serve") (flag_rule (codes "friendly") ∷ [])
 abbrev pub explore_app : App
 explore_app = command_app (codes "explore") (
     default_rule (codes "states") 1 16_777_216 (codes "100000") ∷
-    default_rule (codes "key-bytes") 1 65_536 (codes "256") ∷ [])
+    default_rule (codes "key-bytes") 1 65_536 (codes "256") ∷ text_rule (codes "show") ∷
+    flag_rule (codes "json") ∷ [])
 
 abbrev pub check_app : App
 check_app = command_app (codes "check") (
@@ -237,6 +240,14 @@ pub record AreBoundsOf (rows : List Row) (bounds : Bounds) : Type 0 where
   pub states : IsNumberOf rows (codes "states") 1 16_777_216 bounds.states
   pub key_bytes : IsNumberOf rows (codes "key-bytes") 1 65_536 bounds.key_bytes
 
+-- the option `--json` is given in these matches of `explore`
+abbrev pub is_json_given : List Row → Bool
+is_json_given rows = option_map_or (λ text. bytes_eq text (codes "true")) (first_of (codes "json") rows) false
+
+-- the form of a search that the option asks for
+abbrev pub search_form : List Row → Form
+search_form rows = if is_json_given rows then exploration.Json else exploration.Table
+
 -- the command with these matches asks for the report (profile)
 abbrev pub IsAskedBy : Text × List Row → Report → Type 0
 IsAskedBy found (report.Check check) = (found.0 ≡ codes "check") × IsCheckOf found.1 check
@@ -251,7 +262,12 @@ IsAskedBy found (report.Draw drawing run) =
 IsAskedBy found (report.Conform conformance written) =
     (found.0 ≡ codes "conform") × IsConformanceChosen found.1 conformance × IsWrittenIn found.1 written
 IsAskedBy found report.Expand = found.0 ≡ codes "expand"
-IsAskedBy found (report.Explore exploring) = (found.0 ≡ codes "explore") × AreBoundsOf found.1 exploring.bounds
+IsAskedBy found (report.Explore exploring) =
+    (found.0 ≡ codes "explore") × AreBoundsOf found.1 exploring.bounds × (first_of (codes "show") found.1 ≡ None)
+    × (exploring.form ≡ search_form found.1)
+IsAskedBy found (report.Show showing) =
+    (found.0 ≡ codes "explore") × AreBoundsOf found.1 showing.bounds
+    × (first_of (codes "show") found.1 ≡ Some showing.row.now) × (is_json_given found.1 ≡ false)
 
 -- the command is one that asks for a report
 abbrev pub IsReportName : Text → Type 0
@@ -325,11 +341,14 @@ IsServeStopped rows fault had left contents old new =
 abbrev pub AskNoInput : List Text → Type 0
 AskNoInput words = (faults_of_words words ≢ []) ⊎ ((rows : List Row) × NameThreads words rows)
 
--- the command has this value, of an option: no answer begins with the word, or the text names no steps (profile)
+-- the command has this value, of an option: no answer begins with the word, or the text names no steps; or it has a row
+-- to show and `--json`, too (profile)
 abbrev pub IsWrongIn : Text × List Row → WrongValue → Type 0
 IsWrongIn found (Answer word) = (found.0 ≡ codes "explain") × (unknown_answer found.1 ≡ Some word.now)
 IsWrongIn found (Range text) = (found.0 ≡ codes "draw") × (first_of (codes "steps") found.1 ≡ Some text.now)
     × (range_of_text text.now ≡ None)
+IsWrongIn found ShowAndJson = (found.0 ≡ codes "explore") × (is_some (first_of (codes "show") found.1) ≡ true)
+    × (is_json_given found.1 ≡ true)
 
 abbrev pub AskWrongValue : List Text → WrongValue → Type 0
 AskWrongValue words value = (found : Text × List Row) × NameReport words found × IsWrongIn found value
@@ -345,9 +364,15 @@ abbrev pub unknown_range_text : Text → List ℕ
 unknown_range_text text = codes "error: invalid value '" ++ text
     ++ codes "' for '--steps <A..B>': a range as 3..9, 3.. or ..9 is wanted\n\nFor more information, try '--help'.\n"
 
+-- what is said of a row and `--json` (profile)
+abbrev pub show_and_json_text : List ℕ
+show_and_json_text = codes "error: the argument '--show <ROW>' cannot be used with '--json'\n\n"
+    ++ codes "For more information, try '--help'.\n"
+
 abbrev pub wrong_value_text : WrongValue → List ℕ
 wrong_value_text (Answer word) = unknown_answer_text word.now
 wrong_value_text (Range text) = unknown_range_text text.now
+wrong_value_text ShowAndJson = show_and_json_text
 
 -- something is wrong with the words
 abbrev pub IsMistaken : List Text → Type 0

@@ -17,11 +17,11 @@ use Rattle.dsa_chrome.specs.Traces.{IsChromeTraceOf}
 use Rattle.dsa_count.specs.Totals.{AreTotalsOfDocument}
 use Rattle.dsa_draw.specs.Drawings.{IsDrawnOf}
 use Rattle.dsa_expand.specs.{Expansion.{IsExpansion}, Friendly.{IsMadeOfFriendly}}
-use Rattle.dsa_exploration.specs.Exploration.{IsExplorationOf}
+use Rattle.dsa_exploration.specs.{Exploration.{IsExplorationOf}, Showing.{IsShowingOf}}
 use Rattle.dsa_cli.specs.declared.reports.{Report.{Report}, Run.{Run, TheVariants.{Own, Seen}}}
 use Rattle.dsa_cli.specs.declared.reports.Written.{Written, TheVariants.{Strict, Friendly}}
 use Rattle.dsa_cli.specs.declared.reports.Report.TheVariants.{Check, Explain, Trace, Chrome, Count}
-use Rattle.dsa_cli.specs.declared.reports.Report.TheVariants.{Draw, Conform, Expand, Explore}
+use Rattle.dsa_cli.specs.declared.reports.Report.TheVariants.{Draw, Conform, Expand, Explore, Show}
 
 -- the text, and the fault that is told after it, are made of this run of a document (profile)
 abbrev pub IsMadeOfRun : Run → (List Visit → Running → List ℕ → Type 0) → List ℕ → Option ScenarioFault → List ℕ
@@ -52,7 +52,8 @@ IsReportOf (Draw drawing run) bytes fault text = IsNamedOfRun run (IsDrawnOf dra
 IsReportOf (Conform conformance written) bytes fault text =
     IsMadeOfWritten written (IsConformanceOf conformance.is_all) bytes fault text
 IsReportOf Expand bytes fault text = IsExpansion bytes fault text
-IsReportOf (Explore exploring) bytes fault text = IsExplorationOf exploring.bounds bytes fault text
+IsReportOf (Explore exploring) bytes fault text = IsExplorationOf exploring.form exploring.bounds bytes fault text
+IsReportOf (Show showing) bytes fault text = IsShowingOf showing.bounds showing.row.now bytes fault text
 
 -- the form of a trace of the device's own run, which alone is written on the way (profile)
 abbrev pub streamed_form : Report → Option TraceForm

@@ -22,8 +22,9 @@ use Rattle.dsa_draw.specs.{declared.run.Drawing.{Drawing}, Ranges.{all_steps}}
 use Rattle.clap.specs.{Walk.{Row, Text, one_of}, Simple.{subcommand_of}}
 use Rattle.clap.specs.declared.builder.value_parser.Reading.TheVariants.{AsWritten}
 use Rattle.dsa_explore.specs.declared.search.Bounds.{Bounds}
+use Rattle.dsa_exploration.specs.declared.exploration.Form.{Form}
 use Rattle.dsa_cli.specs.{declared.options.Workload.{Workload}, CommandLine.{program_app}}
-use Rattle.dsa_cli.specs.declared.reports.Report.{Report, TheVariants.{Explore}}
+use Rattle.dsa_cli.specs.declared.reports.Report.{Report, TheVariants.{Explore, Show}}
 use Rattle.dsa_cli.specs.Threads.{setup_steps, submission_of}
 
 -- the bytes of a Move of 4096 bytes
@@ -60,12 +61,20 @@ abbrev pub sized : ℕ → ℕ → ℕ → ℕ → Workload
 sized size threshold slots buffers =
     record (load 2 3 5 7) { size = size; threshold = threshold; slots = slots; buffers = buffers }
 
+-- a word that is lent
+abbrev pub lent_text : Text → Bor Text
+lent_text text = record { ref_ptr = (0, 0); now = text }
+
 -- bounds of a search, and the search
 abbrev pub bounds_of : ℕ → ℕ → Bounds
 bounds_of states key_bytes = record { states = states; key_bytes = key_bytes }
 
-abbrev pub explore_within : ℕ → ℕ → Report
-explore_within states key_bytes = Explore (record { bounds = bounds_of states key_bytes })
+abbrev pub explore_within : Form → ℕ → ℕ → Report
+explore_within form states key_bytes = Explore (record { form = form; bounds = bounds_of states key_bytes })
+
+-- the document of the row of this name, of such a search
+abbrev pub show_within : ℕ → ℕ → Text → Report
+show_within states key_bytes name = Show (record { bounds = bounds_of states key_bytes; row = lent_text name })
 
 -- ---- a run of one client and two engines
 
@@ -145,10 +154,6 @@ abbrev pub option_row : Text → Text → List Row
 option_row name value =
     record { id = name; values = value ∷ []; count = None; source = None; reading = AsWritten } ∷ []
 
--- a word that is lent
-abbrev pub lent_text : Text → Bor Text
-lent_text text = record { ref_ptr = (0, 0); now = text }
-
 -- the matches of `explain` with these values of its options
 abbrev pub explain_rows : Text → Text → Text → Text → List Row
 explain_rows name client only seen = option_row (codes "name") name ++ option_row (codes "client") client
@@ -157,6 +162,18 @@ explain_rows name client only seen = option_row (codes "name") name ++ option_ro
 -- the matches of `explore` with these values of its options
 abbrev pub explore_rows : Text → Text → List Row
 explore_rows states key_bytes = option_row (codes "states") states ++ option_row (codes "key-bytes") key_bytes
+
+-- the same, with a row that is to be shown
+abbrev pub show_rows : Text → Text → Text → List Row
+show_rows states key_bytes name = explore_rows states key_bytes ++ option_row (codes "show") name
+
+-- either of them, with this value of `--json`
+abbrev pub json_rows : Text → List Row → List Row
+json_rows json rows = rows ++ option_row (codes "json") json
+
+-- the command `explore` with a row and `--json`
+abbrev pub json_and_show : List Text
+json_and_show = codes "explore" ∷ codes "--json" ∷ codes "--show" ∷ codes "x: accepted" ∷ []
 
 -- the value of the option `--name`, which has none, where `given` alone is given
 abbrev pub value_of : Text → Text → Text

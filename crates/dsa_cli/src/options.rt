@@ -15,7 +15,7 @@ ghost use Rattle.dsa_cli.specs.CommandLine.{IsNumberOf, IsNumberGiven, AreNumber
 ghost use Rattle.dsa_cli.specs.CommandLine.{IsChosenBy, IsFormOf, IsGivenElse, IsRunChosen, IsCheckOf};
 ghost use Rattle.dsa_cli.specs.CommandLine.{IsAskedBy, IsReportName, AsksBy, AsksFor};
 ghost use Rattle.dsa_cli.specs.CommandLine.{IsCheckFormOf, IsConformanceChosen, IsWrittenIn};
-ghost use Rattle.dsa_cli.specs.CommandLine.{range_asked, unknown_answer};
+ghost use Rattle.dsa_cli.specs.CommandLine.{is_json_given, range_asked, search_form, unknown_answer};
 ghost use Rattle.dsa_draw.specs.Ranges.{range_of_text};
 ghost use Rattle.dsa_cli.specs.CommandLine.{faults_of_words};
 
@@ -25,7 +25,7 @@ use dsa_check::{Check, CheckForm};
 use dsa_chosen::{AnswerWords, Selection};
 use dsa_conform::Conformance;
 use dsa_draw::{Drawing, StepRange};
-use dsa_exploration::{Bounds, Exploring};
+use dsa_exploration::{Bounds, Exploring, Form, Showing};
 use dsa_release::version_text;
 use dsa_trace::Trace;
 use std::alloc::{AllocError, Global};
@@ -51,13 +51,15 @@ pub struct Workload {
     pub buffers: u16,
 }
 
-/// A value of an option that means nothing.
+/// A value of an option that means nothing, or two options of which each forbids the other.
 #[derive(Clone, Copy, Debug, PartialEq, Eq)]
 pub enum WrongValue<'a> {
     /// A word with which no answer begins.
     Answer(&'a str),
     /// A text that names no range of steps.
     Range(&'a str),
+    /// A row of a search to show, and a JSON object in each line.
+    ShowAndJson,
 }
 
 /// What the words ask for.
@@ -182,10 +184,13 @@ each entry of the clients, with each answer and each end that it may have, and a
 each step of the administrators, with each answer that it may get. Each has the fewest steps
 that lead to it. The last line says how many states were stored and steps tried, and whether
 the search is complete. Memory is taken at once: about --states times (--key-bytes + 40)
-bytes.
+bytes. With --show it writes a scenario document in place of the table: the set-up and then
+as few steps as the row says, with their answers. ROW is what stands before the brackets,
+such as \"move: aborted 9\" or \"disable: waits for move\". With --json each line is a JSON
+object: one for each answer, end and question, in the order of the table.
 
-Exit status: 0 the search is complete, 1 it met its bounds, or a fault (its line goes to
-standard error), 2 a usage error.";
+Exit status: 0 the search is complete, or the row is shown, 1 it met its bounds, or a fault
+(its line goes to standard error), 2 a usage error.";
 
 const SERVE_HELP: &str = "\
 Reads one scenario document (JSON), in one line or several, from standard input, and then a
@@ -235,6 +240,8 @@ const ONLY: &str = "Show the steps with an answer that begins with one of these 
 const STATES: &str = "How many states may be stored, 1 to 16777216";
 
 const KEY_BYTES: &str = "How many bytes the key of a state may have, 1 to 65536";
+
+const SHOW: &str = "Write the steps that show this row of the table, as a document";
 
 const STEPS: &str = "Draw the steps from A to B, as 3..9, 3.. or ..9";
 
@@ -451,7 +458,7 @@ fn explore_command<'a>(alloc: Global) -> Result<Command<'a>, AllocError>
     let about = "What may come of the parties, in every order of their steps?";
     let command = plain_command(alloc, "explore", about, EXPLORE_HELP);
     let command = with_number(alloc, command, "states", 1, MOST_STATES, "100000", STATES)?;
-    with_number(
+    let command = with_number(
         alloc,
         command,
         "key-bytes",
@@ -459,7 +466,9 @@ fn explore_command<'a>(alloc: Global) -> Result<Command<'a>, AllocError>
         MOST_KEY_BYTES,
         "256",
         KEY_BYTES,
-    )
+    )?;
+    let command = with_option(command, text_option(alloc, "show", "ROW", SHOW))?;
+    with_flag(alloc, command, "json", "Write a JSON object in each line")
 }
 
 fn serve_command<'a>(alloc: Global) -> Result<Command<'a>, AllocError>
@@ -702,6 +711,53 @@ fn bounds_of(given: &ArgMatches<'_>) -> Bounds
     }
 }
 
+// Whether the option `--json` of `explore` is given.
+fn is_json_given(given: &ArgMatches<'_>) -> bool
+    ensures { result ≡ is_json_given (rows_of (found_of given.now)) }
+{
+    match given.get_str("json") {
+        Some(text) => text == "true",
+        None => false,
+    }
+}
+
+// The form of a search that the option of `explore` asks for.
+fn search_form(given: &ArgMatches<'_>) -> Form
+    ensures { result ≡ search_form (rows_of (found_of given.now)) }
+{
+    if is_json_given(given) {
+        Form::Json
+    } else {
+        Form::Table
+    }
+}
+
+// The document of a row, which the option `--show` names, unless JSON is asked for.
+fn showing_asked<'a>(given: &ArgMatches<'a>, row: &'a str) -> Asked<'a>
+    requires { first_of (codes "show") (rows_of (found_of given.now)) ≡ Some row.now }
+    ensures { AsksBy (codes "explore", rows_of (found_of given.now)) result }
+{
+    if is_json_given(given) {
+        return Asked::WrongValue(WrongValue::ShowAndJson);
+    }
+    let bounds = bounds_of(given);
+    Asked::Report(Report::Show(Showing { bounds, row }))
+}
+
+// What `explore` with these options asks for.
+fn exploration_asked<'a>(given: &ArgMatches<'a>) -> Asked<'a>
+    ensures { AsksBy (codes "explore", rows_of (found_of given.now)) result }
+{
+    match given.get_str("show") {
+        Some(row) => showing_asked(given, row),
+        None => {
+            let form = search_form(given);
+            let bounds = bounds_of(given);
+            Asked::Report(Report::Explore(Exploring { form, bounds }))
+        }
+    }
+}
+
 // Whether the words name this command.
 fn is_named(matches: &ArgMatches<'_>, name: &str) -> bool
     ensures named { result ≡ true
@@ -735,8 +791,7 @@ fn report_asked<'a>(matches: &ArgMatches<'a>) -> Option<Asked<'a>>
         return Some(drawing_asked(given));
     }
     if let Some(given) = matches.subcommand_matches("explore") {
-        let bounds = bounds_of(given);
-        return Some(Asked::Report(Report::Explore(Exploring { bounds })));
+        return Some(exploration_asked(given));
     }
     if is_named(matches, "count") {
         return Some(Asked::Report(Report::Count));

@@ -13,7 +13,7 @@ use dsa_chrome::ChromeTrace;
 use dsa_conform::{AsSeen, Conformance};
 use dsa_draw::Drawing;
 use dsa_expand::{Expansion, Friendly};
-use dsa_exploration::Exploring;
+use dsa_exploration::{Exploring, Showing};
 use dsa_named::{RenderNamed, WithNames};
 use dsa_named_lines::NamedLines;
 use dsa_named_seen::SeenWithNames;
@@ -73,6 +73,8 @@ pub enum Report<'a> {
     Expand,
     /// What may come of its parties, in every order of their steps.
     Explore(Exploring),
+    /// The document of a row of that.
+    Show(Showing<'a>),
 }
 
 // What `what` makes of this run of the document in these bytes.
@@ -118,6 +120,7 @@ impl Render for Report<'_> {
             Report::Conform(inner, Written::Friendly) => Friendly { inner }.render(alloc, bytes),
             Report::Expand => Expansion.render(alloc, bytes),
             Report::Explore(exploring) => exploring.render(alloc, bytes),
+            Report::Show(showing) => showing.render(alloc, bytes),
         }
     }
 }

@@ -32,7 +32,7 @@ ghost use Rattle.dsa_cli.specs.declared.options.Workload.{Workload};
 ghost use Rattle.dsa_cli.specs.declared.options.Asked.TheVariants.{Scenario, Report, Serve};
 ghost use Rattle.dsa_cli.specs.declared.options.Asked.TheVariants.{Threads, HighThreshold};
 ghost use Rattle.dsa_cli.specs.declared.options.Asked.TheVariants.{WrongValue};
-ghost use Rattle.dsa_cli.specs.declared.options.WrongValue.TheVariants.{Answer, Range};
+ghost use Rattle.dsa_cli.specs.declared.options.WrongValue.TheVariants.{Answer, Range, ShowAndJson};
 ghost use Rattle.dsa_check.specs.declared.checking.CheckForm.TheVariants as check_form;
 ghost use Rattle.clap.specs.declared.error.kind.ErrorKind.TheVariants.{UnknownArgument};
 ghost use Rattle.clap.specs.declared.error.kind.ErrorKind.TheVariants.{InvalidSubcommand};
@@ -72,7 +72,9 @@ ghost use Rattle.dsa_chrome.specs.Traces.{IsChromeTrace};
 ghost use Rattle.dsa_count.specs.Totals.{AreTotalsOfDocument};
 ghost use Rattle.dsa_draw.specs.{Drawings.{IsDrawingOf}, Ranges.{all_steps}};
 ghost use Rattle.dsa_expand.specs.Friendly.{IsMadeOfFriendly};
+ghost use Rattle.dsa_exploration.specs.declared.exploration.Form.TheVariants as exploration;
 ghost use Rattle.dsa_exploration.specs.Exploration.{IsExplorationOf};
+ghost use Rattle.dsa_exploration.specs.Showing.{IsShown};
 ghost use Rattle.dsa_cli.specs.Reports.{IsReportBegun, IsReportCutShort, IsReportOf, IsReported};
 ghost use Rattle.dsa_cli.specs.Reports.{IsTooLongCut, IsTooLongTold, streamed_form};
 ghost use Rattle.dsa_cli.specs.Reports.{text_if_too_long};
@@ -107,7 +109,7 @@ ghost use Rattle.dsa_cli.specs.Worked.{words_with_seen, strict_words, explain_wi
 ghost use Rattle.dsa_cli.specs.Worked.{explain_rows, chosen_words, lines_of_one_entry, lent_text};
 ghost use Rattle.dsa_cli.specs.Worked.{check_in, check_rows, comparison, conform_rows, draw_rows, drawing_of};
 ghost use Rattle.dsa_cli.specs.Worked.{whole_drawing, explore_rows, explore_with};
-ghost use Rattle.dsa_cli.specs.Worked.{explore_within, bounds_of};
+ghost use Rattle.dsa_cli.specs.Worked.{explore_within, bounds_of, json_and_show, json_rows, show_rows, show_within};
 
 /// What the words may be: none, or the command `threads` with its options.
 #[tactic(auto, unfolding(clap::proofs::OnLiterals::clap_on_literals))]
@@ -143,6 +145,7 @@ pub fn words_understood()
     ensures expands { command_in (codes "expand" ∷ []) ≡ Some (codes "expand") }
     ensures explore { faults_of_words (codes "explore" ∷ []) ≡ [] }
     ensures explores { command_in (codes "explore" ∷ []) ≡ Some (codes "explore") }
+    ensures json_and_show { faults_of_words json_and_show ≡ [] }
     ensures explore_with_option { faults_of_words (explore_with (codes "--clients") (codes "2"))
         ≡ UnknownArgument ∷ [] }
     ensures counts { command_in (codes "count" ∷ []) ≡ Some (codes "count") }
@@ -184,7 +187,7 @@ pub fn options_of_commands()
         )
         ∷ (codes "draw", codes "steps" ∷ codes "seen" ∷ [])
         ∷ (codes "conform", codes "all" ∷ codes "friendly" ∷ [])
-        ∷ (codes "explore", codes "states" ∷ codes "key-bytes" ∷ [])
+        ∷ (codes "explore", codes "states" ∷ codes "key-bytes" ∷ codes "show" ∷ codes "json" ∷ [])
         ∷ (codes "serve", codes "friendly" ∷ [])
         ∷ (
           codes "threads",
@@ -195,9 +198,10 @@ pub fn options_of_commands()
         ≡ Some (Signed (pos 0) (pos 4_294_967_295)) ∷ Some (Signed (pos 0) (pos 65_535)) ∷ None
         ∷ None ∷ [] }
     ensures explore { map (λ option. option.parser) explore_app.top.rules
-        ≡ Some (Signed (pos 1) (pos 16_777_216)) ∷ Some (Signed (pos 1) (pos 65_536)) ∷ [] }
+        ≡ Some (Signed (pos 1) (pos 16_777_216)) ∷ Some (Signed (pos 1) (pos 65_536)) ∷ None
+        ∷ None ∷ [] }
     ensures bounds { map (λ option. option.defaults) explore_app.top.rules
-        ≡ (codes "100000" ∷ []) ∷ (codes "256" ∷ []) ∷ [] }
+        ≡ (codes "100000" ∷ []) ∷ (codes "256" ∷ []) ∷ [] ∷ [] ∷ [] }
     ensures threads { map (λ option. option.parser) threads_app.top.rules
         ≡ Some (Signed (pos 1) (pos 16)) ∷ Some (Signed (pos 1) (pos 8))
         ∷ Some (Signed (pos 1) (pos 1_000)) ∷ Some (Signed (pos 1) (pos 40_000))
@@ -240,6 +244,12 @@ pub fn option_values()
     ensures bounds { map (value_in (codes "explore" ∷ []))
         (codes "states" ∷ codes "key-bytes" ∷ [])
         ≡ Some (codes "100000") ∷ Some (codes "256") ∷ [] }
+    ensures no_row { value_in (codes "explore" ∷ []) (codes "show") ≡ None }
+    ensures json { map (λ words. value_in words (codes "json"))
+        ((codes "explore" ∷ []) ∷ json_and_show ∷ []) ≡ Some (codes "false") ∷ Some (codes "true")
+        ∷ [] }
+    ensures row { value_in (explore_with (codes "--show") (codes "x: accepted")) (codes "show")
+        ≡ Some (codes "x: accepted") }
     ensures given_bounds { map (value_in (explore_with (codes "--states") (codes "7")))
         (codes "states" ∷ codes "key-bytes" ∷ [])
         ≡ Some (codes "7") ∷ Some (codes "256") ∷ [] }
@@ -585,7 +595,7 @@ pub fn documents_too_long()
     ensures texts { map text_if_too_long
         (Check strict_check ∷ Check (check_in check_form.Json) ∷ Explain all_lines Own
         ∷ Trace Json Own ∷ Chrome Own ∷ Count ∷ Draw whole_drawing Seen
-        ∷ Conform (comparison true) Friendly ∷ Expand ∷ explore_within 3 4 ∷ [])
+        ∷ Conform (comparison true) Friendly ∷ Expand ∷ explore_within exploration.Json 3 4 ∷ [])
         ≡ Some (codes "document too long: it has more than 1048576 bytes\n")
         ∷ Some (too_long_text check_form.Json) ∷ replicate 8 None }
     ensures told { (bytes : List ℕ) → 1_048_576 < length bytes
@@ -644,14 +654,42 @@ pub fn names_of_reports()
     ensures asks_expand { IsAskedBy (codes "expand", []) Expand }
     ensures no_expand { ¬ IsAskedBy (codes "expand", []) Count }
     ensures asks_explore { IsAskedBy (codes "explore", explore_rows (codes "7") (codes "65536"))
-        (explore_within 7 65_536) }
+        (explore_within exploration.Table 7 65_536) }
+    ensures asks_show { IsAskedBy
+        (codes "explore", show_rows (codes "7") (codes "65536") (codes "x: accepted"))
+        (show_within 7 65_536 (codes "x: accepted")) }
+    ensures shows_no_table { ¬ IsAskedBy
+        (codes "explore", show_rows (codes "7") (codes "65536") (codes "x: accepted"))
+        (explore_within exploration.Table 7 65_536) }
+    ensures no_row { ¬ IsAskedBy (codes "explore", explore_rows (codes "7") (codes "9"))
+        (show_within 7 9 (codes "x: accepted")) }
+    ensures other_row { ¬ IsAskedBy
+        (codes "explore", show_rows (codes "7") (codes "9") (codes "x: accepted"))
+        (show_within 7 9 (codes "y: accepted")) }
+    ensures asks_json_lines { IsAskedBy
+        (codes "explore", json_rows (codes "true") (explore_rows (codes "7") (codes "9")))
+        (explore_within exploration.Json 7 9) }
+    ensures asks_a_table { IsAskedBy
+        (codes "explore", json_rows (codes "false") (explore_rows (codes "7") (codes "9")))
+        (explore_within exploration.Table 7 9) }
+    ensures json_is_no_table { ¬ IsAskedBy
+        (codes "explore", json_rows (codes "true") (explore_rows (codes "7") (codes "9")))
+        (explore_within exploration.Table 7 9) }
+    ensures a_table_is_no_json { ¬ IsAskedBy
+        (codes "explore", json_rows (codes "false") (explore_rows (codes "7") (codes "9")))
+        (explore_within exploration.Json 7 9) }
+    ensures shows_no_row_in_json { ¬ IsAskedBy (
+      codes "explore",
+      json_rows (codes "true") (show_rows (codes "7") (codes "9") (codes "x: accepted")),
+    )
+        (show_within 7 9 (codes "x: accepted")) }
     ensures no_totals { ¬ IsAskedBy (codes "explore", explore_rows (codes "7") (codes "9")) Count }
     ensures other_bounds { ¬ IsAskedBy (codes "explore", explore_rows (codes "7") (codes "9"))
-        (explore_within 9 7) }
+        (explore_within exploration.Table 9 7) }
     ensures other_key_bytes { ¬ IsAskedBy (codes "explore", explore_rows (codes "7") (codes "9"))
-        (explore_within 7 8) }
+        (explore_within exploration.Table 7 8) }
     ensures no_exploration { ¬ IsAskedBy (codes "draw", explore_rows (codes "7") (codes "9"))
-        (explore_within 7 9) }
+        (explore_within exploration.Table 7 9) }
     ensures asks_draw { IsAskedBy (codes "draw", option_row (codes "seen") (codes "false"))
         (Draw whole_drawing Own) }
     ensures asks_steps { IsAskedBy (codes "draw", draw_rows (codes "3..9") (codes "false"))
@@ -738,6 +776,21 @@ pub fn lines_chosen()
     ensures ranges { map (λ steps. range_asked (draw_rows steps (codes "false")))
         (codes "3..9" ∷ codes "3" ∷ codes "9..3" ∷ [])
         ≡ Some (drawing_of 3 10).steps ∷ None ∷ None ∷ [] }
+    ensures show_and_json { IsWrongIn
+        (codes "explore", json_rows (codes "true") (show_rows (codes "7") (codes "9") []))
+        ShowAndJson }
+    ensures show_alone { ¬ IsWrongIn
+        (codes "explore", json_rows (codes "false") (show_rows (codes "7") (codes "9") []))
+        ShowAndJson }
+    ensures json_alone { ¬ IsWrongIn
+        (codes "explore", json_rows (codes "true") (explore_rows (codes "7") (codes "9")))
+        ShowAndJson }
+    ensures of_no_trace { ¬ IsWrongIn
+        (codes "trace", json_rows (codes "true") (show_rows (codes "7") (codes "9") []))
+        ShowAndJson }
+    ensures said_of_show { wrong_value_text ShowAndJson
+        ≡ codes "error: the argument '--show <ROW>' cannot be used with '--json'"
+        ++ codes "\n\nFor more information, try '--help'.\n" }
     ensures by_expand { AsksBy (codes "expand", []) (Report Expand) }
     ensures by_report { AsksBy (codes "count", []) (Report Count) }
     ensures by_unknown { AsksBy (codes "explain", option_row (codes "only") (codes "gone,on"))
@@ -944,8 +997,11 @@ pub fn reports_of_documents()
         → IsReportOf (Draw whole_drawing Seen) bytes (Some (BadStep 7)) text
         → IsUnread bytes 7 × (text ≡ []) }
     ensures exploration { (bytes text : List ℕ)
-        → IsReportOf (explore_within 3 4) bytes (Some Incomplete) text
-        → IsExplorationOf (bounds_of 3 4) bytes (Some Incomplete) text }
+        → IsReportOf (explore_within exploration.Json 3 4) bytes (Some Incomplete) text
+        → IsExplorationOf exploration.Json (bounds_of 3 4) bytes (Some Incomplete) text }
+    ensures row_shown { (bytes text : List ℕ)
+        → IsReportOf (show_within 3 4 (codes "x: accepted")) bytes None text
+        → IsShown (bounds_of 3 4) (codes "x: accepted") bytes text }
     ensures conformance { (bytes text : List ℕ)
         → IsReportOf (Conform (comparison true) Strict) bytes (Some BadCaps) text
         → IsConformanceOf true bytes (Some BadCaps) text }
@@ -1005,13 +1061,25 @@ pub fn asked()
     ensures known_answer { ¬ AsksFor (explain_with (codes "--only") (codes "idle"))
         (WrongValue (Answer (lent_text (codes "idle")))) }
     ensures count { AsksFor (codes "count" ∷ []) (Report Count) }
-    ensures explore { AsksFor (codes "explore" ∷ []) (Report (explore_within 100_000 256)) }
+    ensures explore { AsksFor (codes "explore" ∷ [])
+        (Report (explore_within exploration.Table 100_000 256)) }
+    ensures show { AsksFor (explore_with (codes "--show") (codes "x: accepted"))
+        (Report (show_within 100_000 256 (codes "x: accepted"))) }
+    ensures json_explore { AsksFor (codes "explore" ∷ codes "--json" ∷ [])
+        (Report (explore_within exploration.Json 100_000 256)) }
+    ensures no_json { ¬ AsksFor (codes "explore" ∷ [])
+        (Report (explore_within exploration.Json 100_000 256)) }
+    ensures no_table { ¬ AsksFor (codes "explore" ∷ codes "--json" ∷ [])
+        (Report (explore_within exploration.Table 100_000 256)) }
+    ensures json_and_show { AsksFor json_and_show (WrongValue ShowAndJson) }
     ensures few_states { AsksFor (explore_with (codes "--states") (codes "1"))
-        (Report (explore_within 1 256)) }
+        (Report (explore_within exploration.Table 1 256)) }
     ensures long_keys { AsksFor (explore_with (codes "--key-bytes") (codes "65536"))
-        (Report (explore_within 100_000 65_536)) }
-    ensures other_states { ¬ AsksFor (codes "explore" ∷ []) (Report (explore_within 7 256)) }
-    ensures other_search { ¬ AsksFor (codes "count" ∷ []) (Report (explore_within 100_000 256)) }
+        (Report (explore_within exploration.Table 100_000 65_536)) }
+    ensures other_states { ¬ AsksFor (codes "explore" ∷ [])
+        (Report (explore_within exploration.Table 7 256)) }
+    ensures other_search { ¬ AsksFor (codes "count" ∷ [])
+        (Report (explore_within exploration.Table 100_000 256)) }
     ensures draw { AsksFor (codes "draw" ∷ []) (Report (Draw whole_drawing Own)) }
     ensures seen_draw { AsksFor (words_with_seen (codes "draw"))
         (Report (Draw whole_drawing Seen)) }
@@ -1049,6 +1117,7 @@ pub fn asked()
         (HighThreshold (record (load 2 2 100 10_000) { threshold = 16 })) }
     ensures mistaken { IsMistaken (codes "scenario" ∷ []) }
     ensures mistaken_threshold { IsMistaken (threads_with (codes "--threshold") (codes "17")) }
+    ensures mistaken_show { IsMistaken json_and_show }
     ensures mistaken_answer { IsMistaken (explain_with (codes "--only") (codes "idel")) }
     ensures help { ¬ IsMistaken (codes "--help" ∷ []) }
     ensures version { ¬ IsMistaken (codes "--version" ∷ []) }

@@ -21,7 +21,8 @@ ghost use Rattle.dsa_cli.specs.CommandLine.{NameNothing, NameThreads, NameReport
 ghost use Rattle.dsa_cli.specs.CommandLine.{IsServed, IsServedIn, IsServeStopped, IsServeStoppedIn};
 ghost use Rattle.dsa_cli.specs.CommandLine.{SayHighThreshold, high_threshold_text};
 ghost use Rattle.dsa_cli.specs.CommandLine.{AskWrongValue, wrong_value_text};
-ghost use Rattle.dsa_cli.specs.CommandLine.{unknown_answer_text, unknown_range_text};
+ghost use Rattle.dsa_cli.specs.CommandLine.{show_and_json_text, unknown_answer_text};
+ghost use Rattle.dsa_cli.specs.CommandLine.{unknown_range_text};
 ghost use Rattle.dsa_cli.specs.CommandLine.{IsReportWritten, IsReportCut, IsReportLeft};
 ghost use Rattle.dsa_cli.specs.CommandLine.{AreTotalsWritten, AreTotalsCutShort};
 ghost use Rattle.dsa_cli.specs.Endings.{IsEnd, IsEndedBy, IsFaultTold, IsQuiet, IsWriteRefused};
@@ -331,6 +332,17 @@ fn refuse_range<E: Write>(err: &mut WatchedWriter<'_, E>, text: &str) -> u8
     REFUSED
 }
 
+// Says that a row is not shown as JSON lines, and gives the exit status.
+fn refuse_show<E: Write>(err: &mut WatchedWriter<'_, E>) -> u8
+    ensures { IsRefusal result E.contents err.old err.new show_and_json_text }
+{
+    let _ = err.print(format_args!(
+        "error: the argument '--show <ROW>' cannot be used with '--json'\n\n\
+        For more information, try '--help'.\n"
+    ));
+    REFUSED
+}
+
 // Says what is wrong with the value, and gives the exit status.
 fn refuse_value<E: Write>(err: &mut WatchedWriter<'_, E>, value: WrongValue<'_>) -> u8
     ensures { IsRefusal result E.contents err.old err.new (wrong_value_text value.entry) }
@@ -338,6 +350,7 @@ fn refuse_value<E: Write>(err: &mut WatchedWriter<'_, E>, value: WrongValue<'_>)
     match value {
         WrongValue::Answer(word) => refuse_answer(err, word),
         WrongValue::Range(text) => refuse_range(err, text),
+        WrongValue::ShowAndJson => refuse_show(err),
     }
 }
 

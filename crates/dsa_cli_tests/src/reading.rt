@@ -8,7 +8,7 @@ use std::sync::Wait;
 use std::thread::Threads;
 
 /// Each with how the output begins, of a document of one step.
-pub const READERS: [(Words, &str); 17] = [
+pub const READERS: [(Words, &str); 18] = [
     (&[], "nothing\n"),
     (&["--"], "nothing\n"),
     (&["check"], ""),
@@ -22,10 +22,14 @@ pub const READERS: [(Words, &str); 17] = [
     (&["draw", "--steps", "3.."], "<svg "),
     (&["conform"], "conforms"),
     (&["conform", "--all"], "conforms"),
-    (&["explore"], "1 state, "),
+    (&["explore"], "ends: all through [0]\n1 state, "),
+    (
+        &["explore", "--json"],
+        "{\"end\":\"all through\",\"steps\":0}\n{\"states\":1,",
+    ),
     (
         &["explore", "--states=1", "--key-bytes", "128"],
-        "1 state, ",
+        "ends: all through [0]\n1 state, ",
     ),
     (&["serve"], "nothing\n"),
     (&["serve", "--friendly"], "nothing\n"),

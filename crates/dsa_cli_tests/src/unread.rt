@@ -8,7 +8,7 @@ use std::process::Abort;
 use std::sync::Wait;
 use std::thread::Threads;
 
-const WRONG: [Words; 34] = [
+const WRONG: [Words; 35] = [
     &["fly"],
     &[""],
     &["--json"],
@@ -27,6 +27,7 @@ const WRONG: [Words; 34] = [
     &["conform", "--wide"],
     &["explore", "--states", "0"],
     &["explore", "--key-bytes=65537"],
+    &["explore", "--json", "--show", "x: accepted"],
     &["serve", "serve"],
     &["serve", "--friendly", "--friendly"],
     &["threads", "extra"],

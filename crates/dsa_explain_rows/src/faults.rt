@@ -1,7 +1,7 @@
 //! Faults of a document in words.
 
 ghost use Rattle.std.specs.Prelude.{◌≡◌, [], ◌∷◌, codes, map};
-ghost use Rattle.dsa_scenario.specs.declared.faults.ScenarioFault.TheVariants.{Read, TooLong, NotJson, BadDocument, BadStep, BadCaps, BadCapacity, NoParties, BadParties, BadParty, TooManyParties, BadSetup, Differs, Incomplete, Write, OutOfMemory};
+ghost use Rattle.dsa_scenario.specs.declared.faults.ScenarioFault.TheVariants.{Read, TooLong, NotJson, BadDocument, BadStep, BadCaps, BadCapacity, NoParties, BadParties, BadParty, TooManyParties, BadQuestion, BadSetup, Differs, Incomplete, Broken, NoSuchRow, Write, OutOfMemory};
 ghost use Rattle.dsa_scenario.specs.Faults.{fault_line, fault_text};
 
 /// The line of each fault of a document.
@@ -20,9 +20,12 @@ pub fn faults_in_words()
         ∷ BadParties
         ∷ BadParty 12
         ∷ TooManyParties
+        ∷ BadQuestion 7
         ∷ BadSetup
         ∷ Differs 4
         ∷ Incomplete
+        ∷ Broken 10
+        ∷ NoSuchRow
         ∷ Write
         ∷ OutOfMemory
         ∷ [])
@@ -37,9 +40,12 @@ pub fn faults_in_words()
         ∷ codes "bad parties"
         ∷ codes "bad party 12"
         ∷ codes "too many parties"
+        ∷ codes "bad question 7"
         ∷ codes "bad set-up"
         ∷ codes "step 4 differs"
         ∷ codes "search incomplete"
+        ∷ codes "question 10 is broken"
+        ∷ codes "no such row"
         ∷ codes "write failed"
         ∷ codes "out of memory"
         ∷ [] }

@@ -1,20 +1,23 @@
 -- Faults of parties, and what is told of them.
-use Rattle.std.proofs.Common.{◌≡◌, ◌+◌, inl, inr, ap, ℕ, List, [], ◌∷◌, Bool, true, false, cond, Option, Some, None, Ok, Err, refl, sym, subst}
-use Rattle.std.specs.Prelude.{◌⊎◌, Result, codes, ok_or}
+use Rattle.std.proofs.Common.{◌≡◌, ◌+◌, ◌++◌, inl, inr, ap, ℕ, List, [], ◌∷◌, Bool, true, false, cond, length, Option, Some}
+use Rattle.std.proofs.Common.{None, Ok, Err, subst}
+use Rattle.std.specs.Prelude.{◌⊎◌, Result, codes, is_none, ok_or}
 use Rattle.serde_json.specs.{Data.{Data}, Find.{get}}
 use Rattle.dsa_scenario.specs.declared.faults.ScenarioFault.{ScenarioFault}
 use Rattle.dsa_scenario.specs.declared.faults.ScenarioFault.TheVariants.{NoParties, BadParties, BadParty, TooManyParties}
+use Rattle.dsa_scenario.specs.declared.faults.ScenarioFault.TheVariants.{BadQuestion}
 use Rattle.dsa_plans.specs.Acting.{administrator_onto}
-use Rattle.dsa_plans.specs.Submitters.{client_onto}
+use Rattle.dsa_plans.specs.{Said.{items_in, read_or}, Submitters.{client_onto}}
 use Rattle.dsa_plans.specs.Plans.{Tables, PartyLists, are_few, few_tables, ok_and_then, parties_onto, parties_said}
 use Rattle.dsa_plans.specs.Plans.{party_lists, script_said, tables_said, tables_with}
 use Rattle.dsa_explore.specs.declared.search.Bounds.{Bounds}
-use Rattle.dsa_exploration.specs.Exploration.{HasBadParties, IsExplorationOf}
+use Rattle.dsa_questions.specs.declared.question.Kind.{Kind, TheVariants.{Never, Sometimes}}
+use Rattle.dsa_questions.specs.Reading.{Asked, all_of, key_of, list_onto, question_said, questions_onto, questions_said}
+use Rattle.dsa_exploration.specs.declared.exploration.Form.{Form}
+use Rattle.dsa_exploration.specs.Exploration.{HasBadParties, HasBadQuestion, IsExplorationOf}
 
--- what holds of each fault of parties holds of the one that is said
-module _ (P : ScenarioFault → Type 0) (none : P NoParties) (bad : P BadParties) (party : (i : ℕ) → P (BadParty i))
-    (many : P TooManyParties) where
-  -- of the first step's fault, or of the second's
+-- what holds of the fault of the first step, or of the second's
+module _ (P : ScenarioFault → Type 0) where
   either : {A B : Type 0} (f : A → Result B ScenarioFault) (r : Result A ScenarioFault) (e : ScenarioFault)
       → ((e : ScenarioFault) → r ≡ Err e → P e) → ((x : A) → f x ≡ Err e → P e) → ok_and_then f r ≡ Err e → P e
   either f (Ok x) e first next h = next x h
@@ -28,48 +31,98 @@ module _ (P : ScenarioFault → Type 0) (none : P NoParties) (bad : P BadParties
       let same : fault ≡ e = cc in
       subst P same p
 
+  unless : {A : Type 0} (b : Bool) (x : A) (fault e : ScenarioFault) → P fault → cond b (Ok x) (Err fault) ≡ Err e
+      → P e
+  unless true x fault e p h = absurd cc
+  unless false x fault e p h =
+      let same : fault ≡ e = cc in
+      subst P same p
+
+-- what holds of each fault of parties holds of the one that is said
+module _ (P : ScenarioFault → Type 0) (none : P NoParties) (bad : P BadParties) (party : (i : ℕ) → P (BadParty i))
+    (many : P TooManyParties) where
   one_party : {A : Type 0} (onto : A → Data → Option A) (number : ℕ) (done : A) (ds : List Data) (e : ScenarioFault)
       → parties_onto onto number done ds ≡ Err e → P e
   one_party onto number done [] e h = absurd cc
   one_party onto number done (d ∷ ds) e h =
-      either (λ more. parties_onto onto (number + 1) more ds) (ok_or (onto done d) (BadParty number)) e
-      (λ e. missing (onto done d) (BadParty number) e (party number))
+      either P (λ more. parties_onto onto (number + 1) more ds) (ok_or (onto done d) (BadParty number)) e
+      (λ e. missing P (onto done d) (BadParty number) e (party number))
       (λ more. one_party onto (number + 1) more ds e) h
-
-  too_many : (b : Bool) (t : Tables) (e : ScenarioFault) → cond b (Ok t) (Err TooManyParties) ≡ Err e → P e
-  too_many true t e h = absurd cc
-  too_many false t e h =
-      let same : TooManyParties ≡ e = cc in
-      subst P same many
 
   of_tables : (lists : PartyLists) (e : ScenarioFault) → tables_said lists ≡ Err e → P e
   of_tables lists e h =
-      either (λ submitters. ok_and_then (λ acting. few_tables (tables_with lists.engines submitters acting))
+      either P (λ submitters. ok_and_then (λ acting. few_tables (tables_with lists.engines submitters acting))
       (parties_onto administrator_onto _ ([], []) lists.administrators)) _ e
       (λ e. one_party client_onto 0 ([], []) lists.clients e)
-      (λ submitters. either (λ acting. few_tables (tables_with lists.engines submitters acting)) _ e
+      (λ submitters. either P (λ acting. few_tables (tables_with lists.engines submitters acting)) _ e
       (λ e. one_party administrator_onto _ ([], []) lists.administrators e)
-      (λ acting. too_many (are_few (tables_with lists.engines submitters acting)) _ e)) h
+      (λ acting. let t = tables_with lists.engines submitters acting in
+      unless P (are_few t) t TooManyParties e many)) h
 
   pub of_parties : (count : ℕ) (document : Data) (e : ScenarioFault) → parties_said count document ≡ Err e → P e
   of_parties count document e h =
-      either (script_said count) (ok_or (get (codes "parties") document) NoParties) e
-      (λ e. missing (get (codes "parties") document) NoParties e none)
-      (λ d. either tables_said (ok_or (party_lists count d) BadParties) e
-      (λ e. missing (party_lists count d) BadParties e bad)
+      either P (script_said count) (ok_or (get (codes "parties") document) NoParties) e
+      (λ e. missing P (get (codes "parties") document) NoParties e none)
+      (λ d. either P tables_said (ok_or (party_lists count d) BadParties) e
+      (λ e. missing P (party_lists count d) BadParties e bad)
       (λ lists. of_tables lists e)) h
 
+-- and so of each fault of questions
+module _ (P : ScenarioFault → Type 0) (question : (i : ℕ) → P (BadQuestion i)) where
+  in_turn : (kind : Kind) (labels acts : List (List ℕ)) (done : List Asked) (ds : List Data) (e : ScenarioFault)
+      → questions_onto kind labels acts done ds ≡ Err e → P e
+  in_turn kind labels acts done [] e h = absurd cc
+  in_turn kind labels acts done (d ∷ ds) e h =
+      either P (λ asked. questions_onto kind labels acts (done ++ asked ∷ []) ds)
+      (ok_or (question_said kind labels acts (length done) d) (BadQuestion (length done))) e
+      (λ e. missing P (question_said kind labels acts (length done) d) (BadQuestion (length done)) e
+      (question (length done)))
+      (λ asked. in_turn kind labels acts (done ++ asked ∷ []) ds e) h
+
+  in_list : (kind : Kind) (labels acts : List (List ℕ)) (d : Data) (done : List Asked) (e : ScenarioFault)
+      → list_onto kind labels acts d done ≡ Err e → P e
+  in_list kind labels acts d done e h =
+      either P (questions_onto kind labels acts done)
+      (ok_or (read_or [] items_in (get (key_of kind) d)) (BadQuestion (length done))) e
+      (λ e. missing P (read_or [] items_in (get (key_of kind) d)) (BadQuestion (length done)) e
+      (question (length done)))
+      (λ ds. in_turn kind labels acts done ds e) h
+
+  pub of_questions : (labels acts : List (List ℕ)) (d : Data) (e : ScenarioFault)
+      → questions_said labels acts d ≡ Err e → P e
+  of_questions labels acts d e h =
+      either P (λ nevers. ok_and_then (all_of d) (list_onto Sometimes labels acts d nevers))
+      (list_onto Never labels acts d []) e (λ e. in_list Never labels acts d [] e)
+      (λ nevers. either P (all_of d) (list_onto Sometimes labels acts d nevers) e
+      (λ e. in_list Sometimes labels acts d nevers e)
+      (λ done. unless P (is_none (get (codes "always") d)) done (BadQuestion (length done)) e (question (length done))))
+      h
+
 -- a fault of the parties is told without a text
-told_of_parties : (bounds : Bounds) (bytes text : List ℕ) (e : ScenarioFault) → HasBadParties bytes e → text ≡ []
-    → IsExplorationOf bounds bytes (Some e) text
-told_of_parties bounds bytes text e has empty =
-    of_parties (λ e. HasBadParties bytes e → IsExplorationOf bounds bytes (Some e) text)
+told_of_parties : (form : Form) (bounds : Bounds) (bytes text : List ℕ) (e : ScenarioFault) → HasBadParties bytes e
+    → text ≡ [] → IsExplorationOf form bounds bytes (Some e) text
+told_of_parties form bounds bytes text e has empty =
+    of_parties (λ e. HasBadParties bytes e → IsExplorationOf form bounds bytes (Some e) text)
     (λ has. (empty, has)) (λ has. (empty, has)) (λ i has. (empty, has)) (λ has. (empty, has))
     has.caps.engines has.document e has.said has
 
-pub told_alone : (bounds : Bounds) (bytes text : List ℕ) (fault : Option ScenarioFault) (e : ScenarioFault)
-    → HasBadParties bytes e → text ≡ [] → fault ≡ Some e → IsExplorationOf bounds bytes fault text
-told_alone bounds bytes text fault e has empty is = rw is (told_of_parties bounds bytes text e has empty)
+pub told_alone : (form : Form) (bounds : Bounds) (bytes text : List ℕ) (fault : Option ScenarioFault)
+    (e : ScenarioFault) → HasBadParties bytes e → text ≡ [] → fault ≡ Some e
+    → IsExplorationOf form bounds bytes fault text
+told_alone form bounds bytes text fault e has empty is = rw is (told_of_parties form bounds bytes text e has empty)
+
+-- and so is a fault of the questions
+told_of_questions : (form : Form) (bounds : Bounds) (bytes text : List ℕ) (e : ScenarioFault) → HasBadQuestion bytes e
+    → text ≡ [] → IsExplorationOf form bounds bytes (Some e) text
+told_of_questions form bounds bytes text e has empty =
+    of_questions (λ e. HasBadQuestion bytes e → IsExplorationOf form bounds bytes (Some e) text) (λ i has. (empty, has))
+    has.labels has.acts has.plan.document e has.said has
+
+pub questions_alone : (form : Form) (bounds : Bounds) (bytes text : List ℕ) (fault : Option ScenarioFault)
+    (e : ScenarioFault) → HasBadQuestion bytes e → text ≡ [] → fault ≡ Some e
+    → IsExplorationOf form bounds bytes fault text
+questions_alone form bounds bytes text fault e has empty is =
+    rw is (told_of_questions form bounds bytes text e has empty)
 
 pub other_than : {A B : Type 0} → ¬ A → A ⊎ B → B
 other_than differs (inl a) = absurd (differs a)

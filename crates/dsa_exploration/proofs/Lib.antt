@@ -1,3 +1,4 @@
 pub mod Gathering
 pub mod Faults
 pub mod Plans
+pub mod Shown

@@ -1,3 +1,4 @@
 pub mod Plan
 pub mod Exploration
+pub mod Showing
 pub mod Worked

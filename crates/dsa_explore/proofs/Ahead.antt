@@ -1,11 +1,11 @@
 -- Stored worlds that are expanded one after the other.
 use Rattle.std.proofs.Common.{◌≡◌, ℕ, zero, suc, ◌+◌, ◌<◌, ◌≤◌, Bool, true, false, List, [], ◌∷◌, Some, refl, sym}
-use Rattle.std.proofs.Common.{ap, ◌∙◌, subst, map, length, inl, ⊎_elim, arith}
+use Rattle.std.proofs.Common.{ap, ◌∙◌, subst, length, inl, ⊎_elim, arith}
 use Rattle.std.specs.Prelude.{slice_get}
 use Rattle.std.proofs.lemmas.{Option.{same_Some}, Bool.{cases_eq}}
 use Rattle.dsa_base.{specs.Lists.{In}, proofs.Lists.{In-length}}
 use Rattle.dsa_book.specs.declared.answer.Reply.{Reply}
-use Rattle.dsa_keys.specs.Parties.{World, Stored, HaveEqualKeys, world_after}
+use Rattle.dsa_keys.specs.Parties.{World, Stored, HaveEqualKeys, IsStored, world_after}
 use Rattle.dsa_parties.specs.declared.places.Move.{Move}
 use Rattle.dsa_seen.specs.Table.{HasOneNumberEach}
 use Rattle.dsa_explore.specs.declared.found.{Explored.{Explored}, Found.{Found}}
@@ -16,26 +16,12 @@ use Rattle.dsa_explore.specs.Search.{Space, IsFine, IsLawfulSpace, IsWorldTable,
 use Rattle.dsa_explore.specs.Search.{IsExpanded}
 use Rattle.dsa_explore.specs.Search.{queue_taken_from, AreWritten}
 use Rattle.dsa_explore.proofs.Reached.{reached-none}
-use Rattle.dsa_explore.specs.Trying.{IsSearch, HasTable, IsSearched, IsAt, IsThere, IsTriedOrStopped, IsExpandedAt}
-use Rattle.dsa_explore.specs.Trying.{IsExpandedOrStopped}
-use Rattle.dsa_explore.proofs.Growth.{In-get, get-below, own-key, table-on, rows-on}
+use Rattle.dsa_explore.specs.Trying.{IsSearch, HasReached, IsSearched, IsAt, IsThere, AreTried, IsExpandedAt}
+use Rattle.dsa_explore.specs.Ways.{AreTold, AreRowsTold}
+use Rattle.dsa_explore.proofs.Growth.{In-get, get-at, get-below, get-mapped, own-key, table-on, rows-on}
 use Rattle.dsa_explore.proofs.Tables.{other-keys, expanded-more, all-tried, whole-closed}
-use Rattle.dsa_explore.proofs.Whole.{all-found, rows-found, whole-of}
-use Rattle.dsa_explore.proofs.Counted.{keys-of-all, keys-of-some}
-
--- ---- places of lists
-
-get-mapped : {X Y : Type 0} (f : X → Y) (xs : List X) (i : ℕ) (x : X) → slice_get xs i ≡ Some x
-    → slice_get (map f xs) i ≡ Some (f x)
-get-mapped f [] i x h = absurd cc
-get-mapped f (y ∷ ys) zero x h = let e : y ≡ x = cc in ap (λ z. Some (f z)) e
-get-mapped f (y ∷ ys) (suc i) x h = get-mapped f ys i x h
-
--- below the length there is one
-pub get-at : {X : Type 0} (xs : List X) (i : ℕ) → i < length xs → (x : X) × (slice_get xs i ≡ Some x)
-get-at [] i h = absurd (omega (arith, h))
-get-at (x ∷ xs) zero h = (x, refl)
-get-at (x ∷ xs) (suc i) h = get-at xs i (omega (arith, h))
+use Rattle.dsa_explore.proofs.Whole.{In-place, all-found, rows-found, whole-of}
+use Rattle.dsa_explore.proofs.Counted.{keys-of-all, keys-of-some, deep-of-all, walk-stored}
 
 -- the worlds below this number were expanded
 pub record IsAhead {P : Type 0} (space : Space P Move) (first : World P) (search : Search) (number : ℕ) : Type 0 where
@@ -43,6 +29,8 @@ pub record IsAhead {P : Type 0} (space : Space P Move) (first : World P) (search
   pub is_search : IsSearch space first search table
   pub expanded : (i : ℕ) (x : Stored P) → i < number → slice_get table i ≡ Some x
       → IsExpanded space.parties space.asks table search.rows.items (x.level + 1) x.world
+  pub front : (x : Stored P) → slice_get table number ≡ Some x → search.front ≤ x.level + 1
+  pub behind : (i : ℕ) (x : Stored P) → i < number → slice_get table i ≡ Some x → x.level < search.front
 
 module _ {P : Type 0} (space : Space P Move) (lawful : IsLawfulSpace space)
     (byte-keys : (w v : World P) → HaveEqualKeys w v → space.bytes_of w ≡ space.bytes_of v) (first : World P) where
@@ -59,6 +47,9 @@ module _ {P : Type 0} (space : Space P Move) (lawful : IsLawfulSpace space)
         rows_are = rows-on space lawful first old.front (level + 1) old.rows.items is.rows_are a.before;
         written = is.written;
         within = is.within;
+        told = is.told;
+        by_level = is.by_level;
+        rows_told = is.rows_told;
       })
 
   -- the search stands at a world where its front has moved behind it
@@ -83,14 +74,13 @@ module _ {P : Type 0} (space : Space P Move) (lawful : IsLawfulSpace space)
       (tries : List Try) → IsAt space first mid table number x → mid.rows ≡ old.rows → IsThere space x v
       → ((w : World P) (move : Move) (reply : Reply) → world_after space.parties v move reply ≡ Some w
       → In (record { by = move; queue = queue_taken_from reply }) tries)
-      → (goes_on : Bool) → IsTriedOrStopped space first mid table number x tries new goes_on
-      → IsExpandedOrStopped space first old table number x new goes_on
-  tried-all old mid new table number x v tries is same there covers false still = still
-  tried-all old mid new table number x v tries is same there covers true tried =
+      → AreTried space first mid table number x tries new → IsExpandedAt space first old table number x new
+  tried-all old mid new table number x v tries is same there covers tried =
       let fine = (is.is_search.table_is.worlds x (In-get table number x is.at)).fine in
       record {
         more = tried.more;
         is_search = tried.further.is_at.is_search;
+        front = tried.further.is_at.front;
         worlds = tried.further.worlds;
         kept = tried.further.kept;
         rows = λ row i. tried.further.rows row
@@ -104,11 +94,13 @@ module _ {P : Type 0} (space : Space P Move) (lawful : IsLawfulSpace space)
   -- ---- all worlds
 
   pub ahead-none : (search : Search) (table : List (Stored P)) → IsSearch space first search table
-      → IsAhead space first search 0
-  ahead-none search table is = record {
+      → search.front ≡ 0 → IsAhead space first search 0
+  ahead-none search table is front = record {
     table = table;
     is_search = is;
     expanded = λ i x below. absurd (omega (arith, below));
+    front = λ x at. omega (arith, front);
+    behind = λ i x below. absurd (omega (arith, below));
   }
 
   pub ahead-more : (old new : Search) (number : ℕ) (x : Stored P) → (a : IsAhead space first old number)
@@ -132,6 +124,12 @@ module _ {P : Type 0} (space : Space P Move) (lawful : IsLawfulSpace space)
         (expanded-more space.asks a.table e.more old.rows.items new.rows.items e.kept e.rows space.parties
         (z.0.level + 1) z.0.world (a.expanded i z.0 low z.1)))
         (cases_eq i number);
+    front = λ y at'.
+        let rises = e.is_search.by_level.rising number (number + 1) x y (omega arith) (e.worlds number x at) at' in
+        omega (arith, e.front, rises);
+    behind = λ i y below here.
+        let rises = e.is_search.by_level.rising i number y x (omega (arith, below)) here (e.worlds number x at) in
+        omega (arith, e.front, rises);
   }
 
   -- below the number of worlds there is one to expand
@@ -158,22 +156,49 @@ module _ {P : Type 0} (space : Space P Move) (lawful : IsLawfulSpace space)
             (last_level (node_levels search)) a.table is.table_is is.written is.within fine
             (whole-closed space.caps space.parties space.asks space.good lawful.lawful a.table search.rows.items whole);
         some = has-some search a.table is;
+        deep = λ e once. deep-of-all space lawful byte-keys first search.seen.strings (node_levels search) search.front
+            (last_level (node_levels search)) a.table is.table_is is.written is.within fine
+            (whole-closed space.caps space.parties space.asks space.good lawful.lawful a.table search.rows.items whole)
+            (has-some search a.table is) once;
       }
 
-  -- a search that stops has rows that may come
-  pub stopped : (search : Search) → HasTable space first search → IsSearched space first search false
-  stopped search has =
-      let is = has.is_search in
+  -- and all worlds to which moves lead are stored, as soon as they do
+  pub ahead-reached : (search : Search) (number : ℕ) → IsFine space first → IsAhead space first search number
+      → length search.seen.strings ≤ number → HasReached space first search
+  ahead-reached search number fine a enough =
+      let is = a.is_search in
+      let whole = whole-of space lawful first search.seen.strings (node_levels search) search.front number
+      search.rows.items a.table is.table_is enough a.expanded in
+      let begin : IsStored a.table 0 first = record {
+        at = record { level = 0; world = first };
+        within = is.table_is.begin;
+        soon = omega arith;
+        keys = record { places = refl; keys = refl };
+      } in
       record {
-        findings = rows-found space lawful first search.front search.rows.items is.rows_are;
-        keys = keys-of-some space lawful byte-keys first search.seen.strings (node_levels search) search.front
-            (last_level (node_levels search)) has.table is.table_is is.written is.within;
-        some = has-some search has.table is;
+        table = a.table;
+        is_search = is;
+        all = λ steps w r.
+            let count : 0 + length r.moves ≡ steps = omega (arith, r.count) in
+            subst (λ n. IsStored a.table n w) count
+            (walk-stored space.caps space.parties space.good lawful.lawful a.table
+            (whole-closed space.caps space.parties space.asks space.good lawful.lawful a.table search.rows.items whole)
+            first 0 r.moves w fine.good begin r.leads);
+        behind = λ x i.
+            let p = In-place x a.table i in
+            a.behind p.0 x (omega (arith, get-below a.table p.0 x p.1, is.table_is.count, enough)) p.1;
       }
 
-  pub ahead-stops : (search : Search) (number : ℕ) → IsAhead space first search number
+  -- a search that halts has rows that may come
+  pub stopped : (search : Search) (table : List (Stored P)) → IsSearch space first search table
       → IsSearched space first search false
-  ahead-stops search number a = stopped search (record { table = a.table; is_search = a.is_search })
+  stopped search table is = record {
+    findings = rows-found space lawful first search.front search.rows.items is.rows_are;
+    keys = keys-of-some space lawful byte-keys first search.seen.strings (node_levels search) search.front
+        (last_level (node_levels search)) table is.table_is is.written is.within;
+    some = has-some search table is;
+    deep = λ e. let clash : false ≡ true = e in absurd cc;
+  }
 
   -- the states that a search counted
   pub counted : (explored : Explored) (search : Search) (is_complete : Bool)
@@ -229,6 +254,12 @@ module _ {P : Type 0} (space : Space P Move) (lawful : IsLawfulSpace space)
     written = subst (λ (k : List (List ℕ)). AreWritten space k only) (sym keys) written;
     within = λ x i. ⊎_elim (λ (e : here ≡ x). subst (λ (z : Stored P). z.level ≤ last_level (node_levels search)) e
         (omega arith)) (λ j. absurd j) i;
+    told = told;
+    by_level = record {
+      rising = λ i j x y le at at'. omega (arith, at-zero i x at);
+      early = λ i x at. omega (arith, at-zero i x at);
+    };
+    rows_told = subst (λ (r : List Found). AreRowsTold space only r) (sym rows) (λ row i. absurd i);
   }
     where
       here : Stored P
@@ -236,6 +267,13 @@ module _ {P : Type 0} (space : Space P Move) (lawful : IsLawfulSpace space)
 
       only : List (Stored P)
       only = here ∷ []
+
+      at-zero : (i : ℕ) (x : Stored P) → slice_get only i ≡ Some x → x.level ≡ 0
+      at-zero zero x at = ap (λ (z : Stored P). z.level) (sym (same_Some here x at))
+      at-zero (suc i) x at = absurd cc
+
+      told : AreTold space search.nodes.items only
+      told i node x at here' up = absurd (omega (arith, up, at-zero i x here'))
 
       stored : IsStoredWorld space first here
       stored = record { fine = fine; reached = reached-none space.parties first }

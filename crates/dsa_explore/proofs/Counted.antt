@@ -1,15 +1,17 @@
 -- The keys of a table are those of worlds to which moves lead, and of all of them where each stored world was expanded.
 use Rattle.std.proofs.Common.{◌≡◌, ℕ, ◌+◌, ◌≤◌, Bool, true, false, List, [], ◌∷◌, Option, Some, None, refl, sym, ap, ◌∙◌}
-use Rattle.std.proofs.Common.{subst, length, arith}
-use Rattle.std.specs.Prelude.{option_and_then, unwrap_or}
+use Rattle.std.proofs.Common.{◌<◌, subst, length, arith}
+use Rattle.std.specs.Prelude.{option_and_then, unwrap_or, slice_get, ◌-◌}
+use Rattle.std.proofs.lemmas.{List.{length-map}, Option.{same_Some}}
+use Rattle.dsa_seen.specs.Table.{HasOneNumberEach}
 use Rattle.dsa_base.specs.Lists.{In}
 use Rattle.dsa_regs.specs.declared.Caps.{Caps}
 use Rattle.dsa_keys.specs.Parties.{Parties, World, Made, Stored, AreLawful, IsGoodWorld, HaveEqualKeys}
 use Rattle.dsa_keys.specs.Parties.{IsStored, IsClosedTable, world_after, world_after_all}
 use Rattle.dsa_keys.proofs.Parties.{worlds-answer}
-use Rattle.dsa_explore.specs.Search.{Space, IsFine, IsLawfulSpace, IsWorldTable, AreWritten}
-use Rattle.dsa_explore.specs.Counted.{AreKeysReached, IsKeyReached}
-use Rattle.dsa_explore.proofs.Growth.{In-get, get-both}
+use Rattle.dsa_explore.specs.Search.{Space, IsFine, IsLawfulSpace, IsReached, IsWorldTable, AreWritten}
+use Rattle.dsa_explore.specs.{Counted.{AreKeysReached, IsKeyReached, NeedsMoves}, Stored.{last_level}}
+use Rattle.dsa_explore.proofs.Growth.{In-get, get-at, get-both, get-mapped}
 use Rattle.dsa_explore.proofs.Tables.{stored-as}
 use Rattle.dsa_explore.proofs.Whole.{In-place}
 
@@ -17,7 +19,7 @@ module _ {P M : Type 0} (caps : Caps) (parties : Parties P M) (good : World P �
     (lawful : AreLawful caps parties good) (table : List (Stored P)) (closed : IsClosedTable caps parties good table)
   where
     -- each world to which moves lead is stored
-    walk-stored : (w : World P) (level : ℕ) (xs : List (Made M)) (w' : World P) → IsGoodWorld caps good w
+    pub walk-stored : (w : World P) (level : ℕ) (xs : List (Made M)) (w' : World P) → IsGoodWorld caps good w
         → IsStored table level w → world_after_all parties w xs ≡ Some w' → IsStored table (level + length xs) w'
     walk-stored w level [] w' h i walk =
         let is : w ≡ w' = ap (λ z. unwrap_or z w) walk in
@@ -84,3 +86,37 @@ module _ {P M : Type 0} (space : Space P M) (lawful : IsLawfulSpace space)
         sym (byte-keys w s.at.world s.keys ∙ written p.0 b.0 s.at b.1 p.1) in
         subst (λ (l : List ℕ). In l keys) same (In-get keys p.0 b.0 b.1);
   }
+
+  -- the world that was stored last needs as many moves as its level says
+  pub deep-of-all : IsFine space first → IsClosedTable space.caps space.parties space.good table → 0 < length keys
+      → HasOneNumberEach keys → NeedsMoves space.parties space.bytes_of first (last_level levels)
+  deep-of-all fine closed some once =
+      let n = length levels - 1 in
+      let many : length table ≡ length levels = sym (length-map table (λ (x : Stored P). x.level))
+      ∙ ap length is.levelled in
+      let z = get-at table n (omega (arith, some, is.count, many)) in
+      let b = get-both table keys n z.0 (sym is.count) z.1 in
+      let last : z.0.level ≡ last_level levels = ap (λ o. unwrap_or o 0)
+      (sym (get-mapped (λ (x : Stored P). x.level) table n z.0 z.1) ∙ ap (λ (l : List ℕ). slice_get l n) is.levelled) in
+      record {
+        world = z.0.world;
+        reached = subst (λ (m : ℕ). IsReached space.parties first m z.0.world) last
+            (is.worlds z.0 (In-get table n z.0 z.1)).reached;
+        least = λ steps w r same.
+            let begin : IsStored table 0 first = record {
+              at = record { level = 0; world = first };
+              within = is.begin;
+              soon = omega arith;
+              keys = record { places = refl; keys = refl };
+            } in
+            let s = walk-stored space.caps space.parties space.good lawful.lawful table closed first 0 r.moves w
+            fine.good begin r.leads in
+            let p = In-place s.at table s.within in
+            let k = get-both table keys p.0 s.at (sym is.count) p.1 in
+            let bytes : k.0 ≡ b.0 = sym (written p.0 k.0 s.at k.1 p.1) ∙ sym (byte-keys w s.at.world s.keys) ∙ same
+            ∙ written n b.0 z.0 b.1 z.1 in
+            let number : p.0 ≡ n = once p.0 n b.0 (k.1 ∙ ap (λ (x : List ℕ). Some x) bytes) b.1 in
+            let level : s.at.level ≡ z.0.level = ap (λ (x : Stored P). x.level)
+            (same_Some s.at z.0 (sym p.1 ∙ ap (slice_get table) number ∙ z.1)) in
+            omega (arith, s.soon, r.count, level, last);
+      }

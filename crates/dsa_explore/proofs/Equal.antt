@@ -9,7 +9,7 @@ use Rattle.dsa_book.proofs.{EqualParts.{never, same-number, field}, EqualReplies
 use Rattle.dsa_explore.specs.declared.found.Ask.{Ask, TheVariants.{Submission, Act}}
 use Rattle.dsa_explore.specs.declared.found.Finding.{Finding, TheVariants.{Answer, End, Wait, Removal}}
 
-same-ask : (a b : Ask) → ask_eq.eq-value.it a b ≡ true → a ≡ b
+pub same-ask : (a b : Ask) → ask_eq.eq-value.it a b ≡ true → a ≡ b
 same-ask (Submission x) (Submission y) h = ap Submission (same-number x y h)
 same-ask (Act x) (Act y) h = ap Act (same-number x y h)
 same-ask _ _ h = never h

@@ -9,7 +9,8 @@ use Rattle.dsa_keys.proofs.Parties.{worlds-answer}
 use Rattle.dsa_explore.specs.declared.found.{Finding.{Finding}, Found.{Found}}
 use Rattle.dsa_explore.specs.{Findings.{findings_of}, Explored.{MayCome}}
 use Rattle.dsa_explore.specs.Search.{Space, IsFine, IsLawfulSpace, IsKeyOf, IsWorldTable, IsStoredWorld, AreRows}
-use Rattle.dsa_explore.proofs.Tables.{same-keys}
+use Rattle.dsa_explore.specs.Search.{queue_taken_from}
+use Rattle.dsa_explore.proofs.Tables.{same-keys, queues-agree}
 use Rattle.dsa_explore.proofs.Reached.{reached-more, reached-tells}
 use Rattle.dsa_explore.proofs.Steps.{mirrored-findings}
 
@@ -27,6 +28,12 @@ get-both [] ys i x l h = absurd cc
 get-both (a ∷ xs) [] i x l h = absurd (omega (arith, l))
 get-both (a ∷ xs) (b ∷ ys) zero x l h = (b, refl)
 get-both (a ∷ xs) (b ∷ ys) (suc i) x l h = get-both xs ys i x (omega (arith, l)) h
+
+-- below the length there is one
+pub get-at : {X : Type 0} (xs : List X) (i : ℕ) → i < length xs → (x : X) × (slice_get xs i ≡ Some x)
+get-at [] i h = absurd (omega (arith, h))
+get-at (x ∷ xs) zero h = (x, refl)
+get-at (x ∷ xs) (suc i) h = get-at xs i (omega (arith, h))
 
 pub get-below : {X : Type 0} (xs : List X) (i : ℕ) (x : X) → slice_get xs i ≡ Some x → i < length xs
 get-below [] i x h = absurd cc
@@ -47,6 +54,26 @@ map-push f [] x = refl
 map-push f (y ∷ ys) x = ap (λ z. f y ∷ z) (map-push f ys x)
 
 -- ---- worlds
+
+-- a place of a list is one of each longer list
+pub get-left : {X : Type 0} (xs ys : List X) (i : ℕ) (x : X) → slice_get xs i ≡ Some x
+    → slice_get (xs ++ ys) i ≡ Some x
+get-left [] ys i x h = absurd cc
+get-left (y ∷ xs) ys zero x h = h
+get-left (y ∷ xs) ys (suc i) x h = get-left xs ys i x h
+
+pub get-mapped : {X Y : Type 0} (f : X → Y) (xs : List X) (i : ℕ) (x : X) → slice_get xs i ≡ Some x
+    → slice_get (map f xs) i ≡ Some (f x)
+get-mapped f [] i x h = absurd cc
+get-mapped f (y ∷ ys) zero x h = let e : y ≡ x = cc in ap (λ z. Some (f z)) e
+get-mapped f (y ∷ ys) (suc i) x h = get-mapped f ys i x h
+
+-- a step from w by this move, which takes an entry from the same queue as this reply
+pub record IsMirrored {P M : Type 0} (space : Space P M) (w : World P) (move : M) (reply : Reply) (w' : World P)
+    : Type 0 where
+  pub other : Reply
+  pub leads : world_after space.parties w move other ≡ Some w'
+  pub taken : queue_taken_from reply ≡ queue_taken_from other
 
 module _ {P M : Type 0} (space : Space P M) (lawful : IsLawfulSpace space) (first : World P) where
   -- a step from a fine world leads to a fine one
@@ -84,7 +111,8 @@ module _ {P M : Type 0} (space : Space P M) (lawful : IsLawfulSpace space) (firs
         → IsFine space v → HaveEqualKeys v x.world → front ≡ x.level + 1
         → world_after space.parties v move reply ≡ Some v' → (new : Stored P) × (new.level ≡ front)
         × (HaveEqualKeys v' new.world
-        × IsWorldTable space first (keys ++ space.bytes_of v' ∷ []) (levels ++ front ∷ []) front (table ++ new ∷ []))
+        × (IsWorldTable space first (keys ++ space.bytes_of v' ∷ []) (levels ++ front ∷ []) front (table ++ new ∷ [])
+        × IsMirrored space x.world move reply new.world))
     table-pushed x v v' move reply i f k level step =
         let s = is.worlds x i in
         let same = worlds-answer space.caps space.parties space.good lawful.lawful v v' x.world move reply f.good
@@ -101,28 +129,35 @@ module _ {P M : Type 0} (space : Space P M) (lawful : IsLawfulSpace space) (firs
           refl,
           (
             same.keys,
-            record {
-              count = length-append keys (space.bytes_of v' ∷ []) ∙ ap (λ n. n + 1) is.count
-                  ∙ sym (length-append table (new ∷ []));
-              keyed = λ j bytes y at at'. ⊎_elim
-                  (λ (e : slice_get keys j ≡ Some bytes). ⊎_elim
-                  (λ (e' : slice_get table j ≡ Some y). is.keyed j bytes y e e')
-                  (λ p. absurd (omega (arith, get-below keys j bytes e, p.0, is.count)))
-                  (get-push table new j y at'))
-                  (λ q. ⊎_elim
-                  (λ (e' : slice_get table j ≡ Some y). absurd (omega (arith, get-below table j y e', q.0, is.count)))
-                  (λ p. subst (λ (z : Stored P). IsKeyOf space bytes z.world) p.1
-                  (subst (λ (b : List ℕ). IsKeyOf space b w) q.1 key))
-                  (get-push table new j y at'))
-                  (get-push keys (space.bytes_of v') j bytes at);
-              levelled = map-push (λ (z : Stored P). z.level) table new ∙ ap (λ l. l ++ front ∷ []) is.levelled;
-              worlds = λ y j. ⊎_elim (λ old. is.worlds y old)
-                  (λ (e : new ≡ y). subst (λ (z : Stored P). IsStoredWorld space first z) e stored)
-                  (In-push y table new j);
-              low = λ y j. ⊎_elim (λ old. is.low y old)
-                  (λ (e : new ≡ y). subst (λ (z : Stored P). z.level ≤ front) e (omega arith)) (In-push y table new j);
-              begin = In-left (record { level = 0; world = first }) table (new ∷ []) is.begin;
-            },
+            (
+              record {
+                count = length-append keys (space.bytes_of v' ∷ []) ∙ ap (λ n. n + 1) is.count
+                    ∙ sym (length-append table (new ∷ []));
+                keyed = λ j bytes y at at'. ⊎_elim
+                    (λ (e : slice_get keys j ≡ Some bytes). ⊎_elim
+                    (λ (e' : slice_get table j ≡ Some y). is.keyed j bytes y e e')
+                    (λ p. absurd (omega (arith, get-below keys j bytes e, p.0, is.count)))
+                    (get-push table new j y at'))
+                    (λ q. ⊎_elim
+                    (λ (e' : slice_get table j ≡ Some y). absurd (omega (arith, get-below table j y e', q.0, is.count)))
+                    (λ p. subst (λ (z : Stored P). IsKeyOf space bytes z.world) p.1
+                    (subst (λ (b : List ℕ). IsKeyOf space b w) q.1 key))
+                    (get-push table new j y at'))
+                    (get-push keys (space.bytes_of v') j bytes at);
+                levelled = map-push (λ (z : Stored P). z.level) table new ∙ ap (λ l. l ++ front ∷ []) is.levelled;
+                worlds = λ y j. ⊎_elim (λ old. is.worlds y old)
+                    (λ (e : new ≡ y). subst (λ (z : Stored P). IsStoredWorld space first z) e stored)
+                    (In-push y table new j);
+                low = λ y j. ⊎_elim (λ old. is.low y old)
+                    (λ (e : new ≡ y). subst (λ (z : Stored P). z.level ≤ front) e (omega arith)) (In-push y table new j);
+                begin = In-left (record { level = 0; world = first }) table (new ∷ []) is.begin;
+              },
+              record {
+                other = same.reply';
+                leads = same.leads;
+                taken = queues-agree v'.labels w.labels reply same.reply' same.replies;
+              },
+            ),
           ),
         )
 

@@ -13,7 +13,14 @@ pub mod Ahead
 pub mod Made
 pub mod Covers
 pub mod KeysApart
+pub mod SetUps
 pub mod Begun
+pub mod Scheduled
 pub mod Offered
 pub mod Listing
 pub mod Written
+pub mod Ways
+pub mod Kept
+pub mod Ready
+pub mod Bounded
+pub mod Endings

@@ -16,7 +16,7 @@ use Rattle.dsa_explore.proofs.Steps.{mirrored-findings}
 pub reached-none : {P M : Type 0} (parties : Parties P M) (first : World P) → IsReached parties first 0 first
 reached-none parties first = record { moves = []; leads = refl; count = refl }
 
-walk-more : {P M : Type 0} (parties : Parties P M) (w v v' : World P) (xs : List (Made M)) (last : Made M)
+pub walk-more : {P M : Type 0} (parties : Parties P M) (w v v' : World P) (xs : List (Made M)) (last : Made M)
     → world_after_all parties w xs ≡ Some v → world_after parties v last.move last.reply ≡ Some v'
     → world_after_all parties w (xs ++ last ∷ []) ≡ Some v'
 walk-more parties w v v' [] last walk step =

@@ -69,7 +69,7 @@ module _ {P M : Type 0} (asks : AskOf P M) (table table' : List (Stored P)) (row
 
 -- ---- tries
 
-from-queue : (reply : Reply) (q : ℕ) → choice_of reply ≡ from_queue q → queue_taken_from reply ≡ Some q
+pub from-queue : (reply : Reply) (q : ℕ) → choice_of reply ≡ from_queue q → queue_taken_from reply ≡ Some q
 from-queue (Dispatch (Taken ticket p)) q e = cc
 from-queue (Submit (Accepted ticket)) q e = absurd cc
 from-queue (Fetch (Fetched ticket)) q e = absurd cc
@@ -82,7 +82,7 @@ by-label m (Fetch (Fetched ticket)) = refl
 by-label m (Start (Started ticket)) = refl
 by-label m reply = refl
 
-queues-agree : (m n : Labels) (reply reply' : Reply) → labelled_reply m reply ≡ labelled_reply n reply'
+pub queues-agree : (m n : Labels) (reply reply' : Reply) → labelled_reply m reply ≡ labelled_reply n reply'
     → queue_taken_from reply ≡ queue_taken_from reply'
 queues-agree m n reply reply' e = sym (by-label m reply) ∙ ap queue_taken_from e ∙ by-label n reply'
 

@@ -58,7 +58,7 @@ awaited-append m a xs ys =
     (filter (λ (pair : HeldEntry). is_awaited_by a pair.1) ys)
 
 -- all that is held in one list more
-held-more : (content : Content) (i : ℕ) → i < length content
+pub held-more : (content : Content) (i : ℕ) → i < length content
     → all_held (take i content) ++ chain content i ≡ all_held (take (i + 1) content)
 held-more content i within =
     sym (ap (flat_map (λ (list : List HeldEntry). list)) (take_more content i [] within)

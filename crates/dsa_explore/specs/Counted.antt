@@ -31,6 +31,13 @@ pub record CountsStates {P M : Type 0} (parties : Parties P M) (bytes_of : World
   pub once : HasOneNumberEach keys
   pub reached : AreKeysReached parties bytes_of first explored.depth explored.is_complete keys
 
+-- some state can be reached with so many moves, and with no fewer
+pub record NeedsMoves {P M : Type 0} (parties : Parties P M) (bytes_of : World P → List ℕ) (first : World P)
+    (moves : ℕ) : Type 0 where
+  pub world : World P
+  pub reached : IsReached parties first moves world
+  pub least : (steps : ℕ) (w : World P) → IsReached parties first steps w → bytes_of w ≡ bytes_of world → moves ≤ steps
+
 -- a search that stored no state found nothing
 pub record FoundNothing (explored : Explored) : Type 0 where
   pub rows : explored.rows.items ≡ []

@@ -33,6 +33,15 @@ pub struct Found {
     pub steps: u32,
 }
 
+/// A way in which a run can end, where no party can get on: what the parties have not been through
+/// with, clients first, whether entries are held, and the fewest steps that lead there.
+#[derive(Debug, Drop)]
+pub struct Ending {
+    pub left: Vec<Ask>,
+    pub holds_entries: bool,
+    pub steps: u32,
+}
+
 /// What a search found, and how far it came: the states that it stored, the steps that it tried,
 /// the most steps that lead to a state, and whether it tried all.
 #[derive(Debug, Drop)]
@@ -42,4 +51,6 @@ pub struct Explored {
     pub tried: u64,
     pub depth: u32,
     pub is_complete: bool,
+    /// How runs can end, where the search is complete.
+    pub ends: Option<Vec<Ending>>,
 }

@@ -1,6 +1,6 @@
 //! The key of a world in bytes.
 
-ghost use Rattle.std.specs.Prelude.{◌≡◌, ◌++◌, true, IfOk, OnOk, flat_map};
+ghost use Rattle.std.specs.Prelude.{◌≡◌, ◌<◌, ◌++◌, true, false, length, IfOk, OnOk, flat_map};
 ghost use Rattle.dsa_key_bytes.specs.Numbers.{number_bytes};
 ghost use Rattle.dsa_parties.specs.Standing.{stand_of};
 ghost use Rattle.dsa_explore.specs.Keys.{client_bytes, place_bytes, world_bytes};
@@ -86,7 +86,9 @@ pub struct Key {
 
 impl Key {
     /// No bytes, with the memory for so many.
-    pub fn new(alloc: Global, count: u32) -> Result<Key, AllocError> {
+    pub fn new(alloc: Global, count: u32) -> Result<Key, AllocError>
+        ensures room { IfOk result (λ key. key.line.capacity ≡ count) }
+    {
         let line = Line::new(alloc, count as usize)?;
         let bytes = Vec::with_capacity(alloc, count as usize)?;
         Ok(Key { line, bytes })
@@ -95,8 +97,12 @@ impl Key {
 
 /// Writes the bytes of the world. False where those of its device have no room.
 pub fn write_world(walked: &Walked, key: &mut Key) -> Result<bool, AllocError>
-    ensures { IfOk result
+    ensures written { IfOk result
         (λ fits. fits ≡ true → key.new.bytes.items ≡ world_bytes (world_of walked.now)) }
+    ensures too_long { IfOk result
+        (λ fits. fits ≡ false
+        → key.old.line.capacity < length (world_bytes (world_of walked.now))) }
+    ensures room { OnOk result (key.new.line.capacity ≡ key.old.line.capacity) }
 {
     key.bytes.clear();
     add_places(&mut key.bytes, &walked.places)?;

@@ -81,8 +81,8 @@ fn is_row_of(row: &Found, finding: &Finding) -> bool
     row.finding == *finding
 }
 
-// Whether a row has the finding.
-fn has_finding(rows: &[Found], finding: &Finding) -> bool
+/// Whether a row has the finding.
+pub fn has_finding(rows: &[Found], finding: &Finding) -> bool
     ensures found { result ≡ true → HasFinding rows.now finding.now }
     ensures none { result ≡ false → (row : Found)
         → In row rows.now

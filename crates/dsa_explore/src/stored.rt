@@ -1,11 +1,12 @@
 //! The worlds that a search stored, by their keys, and the rows that it found.
 
-ghost use Rattle.std.specs.Prelude.{◌≡◌, IfOk, IfSome, IfNone, OnOk};
+ghost use Rattle.std.specs.Prelude.{◌≡◌, IfOk, IfErr, OnOk};
 ghost use Rattle.dsa_explore.specs.Findings.{findings_told};
 ghost use Rattle.dsa_explore.specs.Rows.{AddsRows, labels_of};
-ghost use Rattle.dsa_explore.specs.Stored.{IsStoredAt};
+ghost use Rattle.dsa_explore.specs.Stored.{IsStoredAt, IsUnstored};
 
 use crate::found::Found;
+use crate::halting::Halt;
 use crate::rows::{Told, add_findings};
 use dsa_parties::Move;
 use dsa_seen::{Inserted, Seen};
@@ -37,25 +38,25 @@ pub struct Search {
     pub tried: u64,
 }
 
-// Stores a world by its key, if it was not stored, and gives its number. `None` where it does not
+// Stores a world by its key, if it was not stored, and gives its number, or says why it does not
 // fit.
 fn store(
     search: &mut Search,
     key: &[u8],
     parent: u32,
     tried: Try,
-) -> Result<Option<u32>, AllocError>
+) -> Result<Result<u32, Halt>, AllocError>
     ensures stored { IfOk result
-        (λ number. IfSome number (λ i. IsStoredAt search.old key.now i search.new)) }
+        (λ stored. IfOk stored (λ i. IsStoredAt search.old key.now parent tried i search.new)) }
     ensures unstored { IfOk result
-        (λ number. IfNone number
-        ((search.new.seen ≡ search.old.seen) × (search.new.nodes ≡ search.old.nodes))) }
+        (λ stored. IfErr stored (λ halt. IsUnstored search.old key.now halt search.new)) }
     ensures most { OnOk result (search.new.seen.most ≡ search.old.seen.most) }
+    ensures width { OnOk result (search.new.seen.width ≡ search.old.seen.width) }
     ensures rows { OnOk result (search.new.rows ≡ search.old.rows) }
     ensures front { OnOk result (search.new.front ≡ search.old.front) }
 {
     match search.seen.insert(key) {
-        Inserted::Old(number) => Ok(Some(number)),
+        Inserted::Old(number) => Ok(Ok(number)),
         Inserted::New(number) => {
             let level = search.front;
             search.nodes.push(Node {
@@ -63,26 +64,27 @@ fn store(
                 tried,
                 level,
             })?;
-            Ok(Some(number))
+            Ok(Ok(number))
         }
-        _ => Ok(None),
+        Inserted::Full => Ok(Err(Halt::States)),
+        Inserted::TooLong => Ok(Err(Halt::KeyBytes)),
     }
 }
 
-/// Adds what a step told, and stores where it led to.
+/// Adds what a step told, and stores where it led to, or says why that does not fit.
 pub fn note(
     search: &mut Search,
     told: &Told<'_>,
     key: &[u8],
     parent: u32,
     tried: Try,
-) -> Result<Option<u32>, AllocError>
+) -> Result<Result<u32, Halt>, AllocError>
     ensures stored { IfOk result
-        (λ number. IfSome number (λ i. IsStoredAt search.old key.now i search.new)) }
+        (λ stored. IfOk stored (λ i. IsStoredAt search.old key.now parent tried i search.new)) }
     ensures unstored { IfOk result
-        (λ number. IfNone number
-        ((search.new.seen ≡ search.old.seen) × (search.new.nodes ≡ search.old.nodes))) }
+        (λ stored. IfErr stored (λ halt. IsUnstored search.old key.now halt search.new)) }
     ensures most { OnOk result (search.new.seen.most ≡ search.old.seen.most) }
+    ensures width { OnOk result (search.new.seen.width ≡ search.old.seen.width) }
     ensures rows { OnOk result
         (AddsRows search.old.front
         (findings_told told.now.ask (labels_of told.now.labels.now) told.now.reply told.now.ends.now

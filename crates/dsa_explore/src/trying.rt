@@ -1,35 +1,83 @@
 //! The tries from one stored world.
 
-ghost use Rattle.std.specs.Prelude.{◌≡◌, List, Some, IfOk, IfSome, OnOk, slice_get, true, drop};
-ghost use Rattle.dsa_keys.specs.Parties.{World, Stored};
+ghost use Rattle.std.specs.Prelude.{◌≡◌, ℕ, ◌+◌, ◌^◌, ◌≤◌, ◌<◌, min, length, List, Some, IfOk, IfErr, IfSome, IfNone, OnOk};
+ghost use Rattle.std.specs.Prelude.{◌==◌, nat_lt, slice_get, true, false, drop, reverse};
+ghost use Rattle.dsa_keys.specs.Parties.{World, Stored, HaveEqualKeys};
 ghost use Rattle.dsa_parties.specs.Standing.{Standing};
-ghost use Rattle.dsa_explore.specs.Search.{IsFine};
-ghost use Rattle.dsa_explore.specs.Keys.{world_bytes};
-ghost use Rattle.dsa_explore.specs.Trying.{IsAt, IsSearch, IsThere, IsAttemptedOrStopped, IsTriedOrStopped};
-ghost use Rattle.dsa_explore.specs.Walked.{space_of, world_of};
+ghost use Rattle.dsa_parties.specs.declared.places.Move.{Move};
+ghost use Rattle.dsa_explore.specs.Search.{Space, IsFine, queue_taken_from};
+ghost use Rattle.dsa_explore.specs.Halting.{IsHalted};
+ghost use Rattle.dsa_explore.specs.Ready.{is_filled, HasLabels, HasRoomLeft};
+ghost use Rattle.dsa_explore.specs.Trying.{IsAt, IsAttempted, IsSearch, IsThere, AreTried};
+ghost use Rattle.dsa_explore.specs.Walked.{space_of, world_of, IsFirst};
+ghost use Rattle.dsa_explore.specs.Ways.{IsWay, TellWays};
 
 use crate::awaited::labels_waited_for;
+use crate::halting::Halt;
 use crate::keys::{Key, write_world};
+use crate::making::{make, walk_kept};
 use crate::rows::Told;
 use crate::stored::{Node, Search, Try, note};
-use crate::walked::{Plan, Walked, ask_of, begin, make};
-use dsa_book::FateRow;
+use crate::walked::{Plan, Walked, ask_of};
+use dsa_book::{DispatchAnswer, FateRow, Reply};
 use std::alloc::{AllocError, Global};
 
 /// For how many steps a device has room beside those that lead to a world.
 const SPARE_STEPS: u64 = 16;
 
-// The tries that lead to the world of this number. `None` where the nodes do not tell.
-fn path_to(alloc: Global, nodes: &[Node], number: u32) -> Result<Option<Vec<Try>>, AllocError> {
+/// For how many steps a device has room at most.
+const MOST_STEPS: u64 = 1_048_576;
+
+// The node of this number.
+fn node_at(nodes: &[Node], number: u32) -> Option<Node>
+    ensures { result ≡ slice_get nodes.now number }
+{
+    nodes.get(number as usize).copied()
+}
+
+// Whether the node is that of the first world.
+fn is_first(node: &Node) -> bool
+    ensures { result ≡ (node.now.level == 0) }
+{
+    node.level == 0
+}
+
+// The tries, the last one first.
+fn reversed(tries: Vec<Try>) -> Vec<Try>
+    ensures { result.items ≡ reverse tries.items }
+{
+    let mut reversed = tries;
+    reversed.reverse();
+    reversed
+}
+
+/// The tries that lead to the world of this number. `None` where the nodes do not tell.
+pub fn path_to(alloc: Global, nodes: &[Node], number: u32) -> Result<Option<Vec<Try>>, AllocError>
+    ensures way { IfOk result
+        (λ found. IfSome found (λ path. (space : Space Standing Move)
+        → (first : World Standing)
+        → (table : List (Stored Standing))
+        → (x : Stored Standing)
+        → TellWays space first nodes.now table
+        → slice_get table number ≡ Some x
+        → IsWay space first path.items x.world × (length path.items ≡ x.level))) }
+    ensures none { IfOk result
+        (λ found. IfNone found ((space : Space Standing Move)
+        → (first : World Standing)
+        → (table : List (Stored Standing))
+        → (x : Stored Standing)
+        → TellWays space first nodes.now table
+        → slice_get table number ≡ Some x
+        → ⊥)) }
+{
     let mut path = Vec::new(alloc);
     let mut at = number;
     for _ in 0..nodes.len() {
-        let Some(node) = nodes.get(at as usize) else {
+        let Some(node) = node_at(nodes, at) else {
             return Ok(None);
         };
-        if node.level == 0 {
-            path.reverse();
-            return Ok(Some(path));
+        if is_first(&node) {
+            return Ok(Some(reversed(path)));
         }
         path.push(node.tried)?;
         at = node.parent;
@@ -37,77 +85,95 @@ fn path_to(alloc: Global, nodes: &[Node], number: u32) -> Result<Option<Vec<Try>
     Ok(None)
 }
 
-// A history with room for the set-up, for these tries and for some more.
-fn room_for(plan: &Plan<'_>, path: &[Try]) -> u64 {
+// A history with room for the set-up, for these tries and for some more, as far as there may be.
+fn room_for(plan: &Plan<'_>, path: &[Try]) -> u64
+    ensures { result ≡ min (2 ^ 20) (length plan.now.setup.now + length path.now + 16) }
+{
     let steps = (plan.setup.len() as u64).saturating_add(path.len() as u64);
-    steps.saturating_add(SPARE_STEPS)
+    steps.saturating_add(SPARE_STEPS).min(MOST_STEPS)
 }
 
-// A new device on which these tries were made. `None` where one of them cannot be.
-fn walk(alloc: Global, plan: &Plan<'_>, path: &[Try]) -> Result<Option<Walked>, AllocError>
-    ensures { IfOk result
-        (λ found. IfSome found
+/// Whether a history has room for one more step, after the set-up and as many as this level.
+pub fn has_room(plan: &Plan<'_>, level: u32) -> bool
+    ensures { result ≡ nat_lt (length plan.now.setup.now + level) (2 ^ 20) }
+{
+    (plan.setup.len() as u64).saturating_add(level as u64) < MOST_STEPS
+}
+
+// A new device on which these tries were made.
+fn walk(alloc: Global, plan: &Plan<'_>, path: &[Try]) -> Result<Result<Walked, Halt>, AllocError>
+    ensures fine { IfOk result
+        (λ found. IfOk found
         (λ walked. IsFine (space_of plan.now.caps plan.now.script.now) (world_of walked))) }
+    ensures there { IfOk result
+        (λ found. IfOk found
+        (λ walked. (first x : World Standing)
+        → IsFirst plan.now.caps plan.now.script.now plan.now.setup.now first
+        → IsWay (space_of plan.now.caps plan.now.script.now) first path.now x
+        → HaveEqualKeys (world_of walked) x)) }
+    ensures labels { IfOk result (λ found. IfOk found HasLabels) }
+    ensures room { IfOk result
+        (λ found. IfOk found
+        (HasRoomLeft (length plan.now.setup.now + length path.now)
+        (min (2 ^ 20) (length plan.now.setup.now + length path.now + 16)))) }
+    ensures halted { IfOk result
+        (λ found. IfErr found
+        (λ halt. (first x : World Standing)
+        → IsFirst plan.now.caps plan.now.script.now plan.now.setup.now first
+        → IsWay (space_of plan.now.caps plan.now.script.now) first path.now x
+        → (halt ≡ Halt.Steps) × (2 ^ 20 ≤ length plan.now.setup.now + length path.now))) }
 {
-    let Some(mut walked) = begin(alloc, plan, room_for(plan, path))? else {
-        return Ok(None);
+    let Some(kept) = walk_kept(alloc, plan, path, room_for(plan, path))? else {
+        return Ok(Err(Halt::Steps));
     };
-    for tried in path {
-        let Some(_) = make(alloc, plan, &mut walked, *tried)? else {
-            return Ok(None);
-        };
-    }
-    Ok(Some(walked))
+    Ok(Ok(kept.walked))
 }
 
-// Whether the world has the key that is stored under this number.
-fn has_key(search: &Search, number: u32, walked: &Walked, key: &mut Key) -> Result<bool, AllocError>
-    ensures { IfOk result
-        (λ has. has ≡ true → slice_get search.now.seen.strings number
-        ≡ Some (world_bytes (world_of walked.now))) }
-{
-    if number >= search.seen.len() {
-        return Ok(false);
-    }
-    if !write_world(walked, key)? {
-        return Ok(false);
-    }
-    Ok(search.seen.get(number) == key.bytes.as_slice())
-}
-
-/// A device on which the parties stand as in the stored world of this number. `None` where the way
-/// there is not found again.
+/// A device on which the parties stand as in the stored world of this number.
 pub fn go_to(
     alloc: Global,
     plan: &Plan<'_>,
     search: &Search,
     number: u32,
-    key: &mut Key,
-) -> Result<Option<Walked>, AllocError>
-    ensures { IfOk result
-        (λ found. IfSome found (λ walked. (first : World Standing)
+) -> Result<Result<Walked, Halt>, AllocError>
+    ensures there { IfOk result
+        (λ found. IfOk found (λ walked. (first : World Standing)
+        → (table : List (Stored Standing))
+        → (x : Stored Standing)
+        → IsFirst plan.now.caps plan.now.script.now plan.now.setup.now first
+        → IsSearch (space_of plan.now.caps plan.now.script.now) first search.now table
+        → slice_get table number ≡ Some x
+        → IsThere (space_of plan.now.caps plan.now.script.now) x (world_of walked))) }
+    ensures labels { IfOk result (λ found. IfOk found HasLabels) }
+    ensures room { IfOk result
+        (λ found. IfOk found (λ walked. (first : World Standing)
         → (table : List (Stored Standing))
         → (x : Stored Standing)
         → IsSearch (space_of plan.now.caps plan.now.script.now) first search.now table
         → slice_get table number ≡ Some x
-        → IsThere (space_of plan.now.caps plan.now.script.now) x (world_of walked))) }
+        → HasRoomLeft (length plan.now.setup.now + x.level)
+        (min (2 ^ 20) (length plan.now.setup.now + x.level + 16)) walked)) }
+    ensures halted { IfOk result
+        (λ found. IfErr found (λ halt. (first : World Standing)
+        → (table : List (Stored Standing))
+        → (x : Stored Standing)
+        → IsFirst plan.now.caps plan.now.script.now plan.now.setup.now first
+        → IsSearch (space_of plan.now.caps plan.now.script.now) first search.now table
+        → slice_get table number ≡ Some x
+        → (halt ≡ Halt.Steps) × (2 ^ 20 ≤ length plan.now.setup.now + x.level))) }
 {
     let Some(path) = path_to(alloc, search.nodes.as_slice(), number)? else {
-        return Ok(None);
+        return Ok(Err(Halt::Lost));
     };
-    let Some(walked) = walk(alloc, plan, path.as_slice())? else {
-        return Ok(None);
-    };
-    if !has_key(search, number, &walked, key)? {
-        return Ok(None);
-    }
-    Ok(Some(walked))
+    let found = walk(alloc, plan, path.as_slice())?;
+    Ok(found)
 }
 
-// What ended since so many had.
-fn ends_since(walked: &Walked, before: usize) -> Option<&[FateRow]>
-    ensures { IfSome result
+/// What ended since so many had.
+pub fn ends_since(walked: &Walked, before: usize) -> Option<&[FateRow]>
+    ensures ends { IfSome result
         (λ ends. ends.now ≡ drop before (world_of walked.now).state.work.fates) }
+    ensures none { IfNone result (length (world_of walked.now).state.work.fates < before) }
 {
     let fates = walked.machine.device.fates();
     if before > fates.len() {
@@ -116,9 +182,20 @@ fn ends_since(walked: &Walked, before: usize) -> Option<&[FateRow]>
     Some(&fates[before..])
 }
 
+// The same try, which takes an entry from the queue that the reply tells, or from none.
+fn as_taken(tried: Try, reply: Reply) -> Try
+    ensures by { result.by ≡ tried.by }
+    ensures queue { result.queue ≡ queue_taken_from reply }
+{
+    let queue = match reply {
+        Reply::Dispatch(DispatchAnswer::Taken { queue, .. }) => Some(queue),
+        _ => None,
+    };
+    Try { queue, ..tried }
+}
+
 // Tries one step from the stored world of this number, on a device where the parties stand as
-// there.
-// Some(true) where it led back there, and `None` where the search has to stop.
+// there. True where it led back there. What cannot be made leads nowhere.
 fn attempt(
     alloc: Global,
     plan: &Plan<'_>,
@@ -127,26 +204,43 @@ fn attempt(
     number: u32,
     tried: Try,
     key: &mut Key,
-) -> Result<Option<bool>, AllocError>
-    ensures step { IfOk result (λ back. (first : World Standing)
+) -> Result<Result<bool, Halt>, AllocError>
+    ensures step { IfOk result
+        (λ led. IfOk led (λ back. (first : World Standing)
         → (table : List (Stored Standing))
         → (x : Stored Standing)
         → IsAt (space_of plan.now.caps plan.now.script.now) first search.old table number x
         → IsThere (space_of plan.now.caps plan.now.script.now) x (world_of walked.old)
-        → IsAttemptedOrStopped (space_of plan.now.caps plan.now.script.now) first search.old table
-        number x tried search.new (world_of walked.new) back) }
+        → HasLabels walked.old
+        → is_filled walked.old.machine.device ≡ false
+        → IsAttempted (space_of plan.now.caps plan.now.script.now) first search.old table number x
+        tried search.new (world_of walked.new) back)) }
+    ensures labels { IfOk result
+        (λ led. IfOk led (λ back. back ≡ true → HasLabels walked.old → HasLabels walked.new)) }
+    ensures halted { IfOk result
+        (λ led. IfErr led (λ halt. (first : World Standing)
+        → (table : List (Stored Standing))
+        → (x : Stored Standing)
+        → IsAt (space_of plan.now.caps plan.now.script.now) first search.old table number x
+        → IsThere (space_of plan.now.caps plan.now.script.now) x (world_of walked.old)
+        → key.old.line.capacity ≡ search.old.seen.width
+        → IsHalted (space_of plan.now.caps plan.now.script.now) first (length plan.now.setup.now)
+        search.new halt)) }
     ensures most { OnOk result (search.new.seen.most ≡ search.old.seen.most) }
+    ensures width { OnOk result (search.new.seen.width ≡ search.old.seen.width) }
+    ensures front { OnOk result (search.new.front ≡ search.old.front) }
+    ensures room { OnOk result (key.new.line.capacity ≡ key.old.line.capacity) }
 {
     let ask = ask_of(plan, walked, tried.by);
     let before = walked.machine.device.fates().len();
     let Some(reply) = make(alloc, plan, walked, tried)? else {
-        return Ok(None);
+        return Ok(Ok(false));
     };
     if !write_world(walked, key)? {
-        return Ok(None);
+        return Ok(Err(Halt::KeyBytes));
     }
     let Some(ends) = ends_since(walked, before) else {
-        return Ok(None);
+        return Ok(Err(Halt::Lost));
     };
     let labels = walked.labels.as_slice();
     let awaited = labels_waited_for(alloc, &walked.machine.device, labels, reply)?;
@@ -157,45 +251,62 @@ fn attempt(
         ends,
         awaited: awaited.as_slice(),
     };
-    let Some(at) = note(search, &told, key.bytes.as_slice(), number, tried)? else {
-        return Ok(None);
-    };
-    Ok(Some(at == number))
+    let taken = as_taken(tried, reply);
+    match note(search, &told, key.bytes.as_slice(), number, taken)? {
+        Ok(at) => Ok(Ok(at == number)),
+        Err(halt) => Ok(Err(halt)),
+    }
 }
 
-// The device, if the parties stand there as in the stored world of this number and its history has
-// room, and else another where they do.
-fn come(
+/// The device, if the parties stand there as in the stored world of this number and its history has
+/// room, and else another where they do. `None` where the way there is not found again.
+pub fn come(
     alloc: Global,
     plan: &Plan<'_>,
     search: &Search,
     walked: Walked,
     is_there: bool,
     number: u32,
-    key: &mut Key,
-) -> Result<Option<Walked>, AllocError>
-    ensures { IfOk result
-        (λ found. IfSome found (λ here. (first : World Standing)
+) -> Result<Result<Walked, Halt>, AllocError>
+    ensures there { IfOk result
+        (λ found. IfOk found (λ here. (first : World Standing)
         → (table : List (Stored Standing))
         → (x : Stored Standing)
+        → IsFirst plan.now.caps plan.now.script.now plan.now.setup.now first
         → IsSearch (space_of plan.now.caps plan.now.script.now) first search.now table
         → slice_get table number ≡ Some x
         → (is_there ≡ true
         → IsThere (space_of plan.now.caps plan.now.script.now) x (world_of walked))
         → IsThere (space_of plan.now.caps plan.now.script.now) x (world_of here))) }
+    ensures labels { IfOk result
+        (λ found. IfOk found (λ here. (is_there ≡ true → HasLabels walked) → HasLabels here)) }
+    ensures room { IfOk result
+        (λ found. IfOk found (λ here. is_filled here.machine.device ≡ false)) }
+    ensures halted { IfOk result
+        (λ found. IfErr found (λ halt. (first : World Standing)
+        → (table : List (Stored Standing))
+        → (x : Stored Standing)
+        → IsFirst plan.now.caps plan.now.script.now plan.now.setup.now first
+        → IsSearch (space_of plan.now.caps plan.now.script.now) first search.now table
+        → slice_get table number ≡ Some x
+        → (halt ≡ Halt.Steps) × (2 ^ 20 ≤ length plan.now.setup.now + x.level))) }
 {
     if is_there {
         if !walked.machine.device.is_full() {
-            return Ok(Some(walked));
+            return Ok(Ok(walked));
         }
     }
-    let Some(again) = go_to(alloc, plan, search, number, key)? else {
-        return Ok(None);
+    let again = match go_to(alloc, plan, search, number)? {
+        Ok(again) => again,
+        Err(halt) => return Ok(Err(halt)),
     };
-    Ok(Some(again))
+    if again.machine.device.is_full() {
+        return Ok(Err(Halt::Steps));
+    }
+    Ok(Ok(again))
 }
 
-/// Makes all these tries from the stored world of this number. False where the search has to stop.
+/// Makes all these tries from the stored world of this number, or says why the search halts.
 pub fn try_all(
     alloc: Global,
     plan: &Plan<'_>,
@@ -204,27 +315,46 @@ pub fn try_all(
     number: u32,
     tries: &[Try],
     key: &mut Key,
-) -> Result<bool, AllocError>
-    ensures steps { IfOk result (λ goes_on. (first : World Standing)
+) -> Result<Option<Halt>, AllocError>
+    ensures steps { IfOk result
+        (λ halted. IfNone halted ((first : World Standing)
         → (table : List (Stored Standing))
         → (x : Stored Standing)
+        → IsFirst plan.now.caps plan.now.script.now plan.now.setup.now first
         → IsAt (space_of plan.now.caps plan.now.script.now) first search.old table number x
         → IsThere (space_of plan.now.caps plan.now.script.now) x (world_of at_first)
-        → IsTriedOrStopped (space_of plan.now.caps plan.now.script.now) first search.old table
-        number x tries.now search.new goes_on) }
+        → HasLabels at_first
+        → AreTried (space_of plan.now.caps plan.now.script.now) first search.old table number x
+        tries.now search.new)) }
+    ensures halted { IfOk result
+        (λ halted. IfSome halted (λ halt. (first : World Standing)
+        → (table : List (Stored Standing))
+        → (x : Stored Standing)
+        → IsFirst plan.now.caps plan.now.script.now plan.now.setup.now first
+        → IsAt (space_of plan.now.caps plan.now.script.now) first search.old table number x
+        → IsThere (space_of plan.now.caps plan.now.script.now) x (world_of at_first)
+        → HasLabels at_first
+        → key.old.line.capacity ≡ search.old.seen.width
+        → IsHalted (space_of plan.now.caps plan.now.script.now) first (length plan.now.setup.now)
+        search.new halt)) }
     ensures most { OnOk result (search.new.seen.most ≡ search.old.seen.most) }
+    ensures width { OnOk result (search.new.seen.width ≡ search.old.seen.width) }
+    ensures front { OnOk result (search.new.front ≡ search.old.front) }
+    ensures room { OnOk result (key.new.line.capacity ≡ key.old.line.capacity) }
 {
     let mut walked = at_first;
     let mut is_there = true;
     for tried in tries {
-        let Some(mut here) = come(alloc, plan, search, walked, is_there, number, key)? else {
-            return Ok(false);
+        let mut here = match come(alloc, plan, search, walked, is_there, number)? {
+            Ok(here) => here,
+            Err(halt) => return Ok(Some(halt)),
         };
-        let Some(back) = attempt(alloc, plan, search, &mut here, number, *tried, key)? else {
-            return Ok(false);
+        let back = match attempt(alloc, plan, search, &mut here, number, *tried, key)? {
+            Ok(back) => back,
+            Err(halt) => return Ok(Some(halt)),
         };
         walked = here;
         is_there = back;
     }
-    Ok(true)
+    Ok(None)
 }

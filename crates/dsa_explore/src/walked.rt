@@ -1,26 +1,27 @@
 //! A device on which the parties of a script moved.
 
-ghost use Rattle.std.specs.Prelude.{◌≡◌, ◌&&◌, ◌==◌, ℕ, nat_lt, Some, IfOk, IfSome, IfNone, true, find, length, option_map};
+ghost use Rattle.std.specs.Prelude.{◌≡◌, ◌≢◌, ◌&&◌, ◌==◌, ℕ, ◌+◌, nat_lt, Some, None, IfOk, IfSome, IfNone};
+ghost use Rattle.std.specs.Prelude.{true, false, find, length, option_map};
 ghost use Rattle.dsa_store.specs.Content.{HeldEntry};
 ghost use Rattle.dsa_book.specs.Machine.{next};
 ghost use Rattle.dsa_keys.specs.Labels.{with_label};
-ghost use Rattle.dsa_keys.specs.Parties.{world_after};
 ghost use Rattle.dsa_keys.specs.Steps.{event_by_label};
 ghost use Rattle.dsa_parties.specs.Standing.{stand_of};
-ghost use Rattle.dsa_device.specs.Running.{running_at_first};
-ghost use Rattle.dsa_parties.specs.Offers.{bare_offer, has_engine, label_ticket, may_give, parties_of};
+ghost use Rattle.dsa_device.specs.Running.{after_answer, running_at_first};
+ghost use Rattle.dsa_parties.specs.Offers.{bare_offer, has_engine, label_ticket, may_give};
 ghost use Rattle.dsa_parties.specs.declared.places.Move.TheVariants as move;
 ghost use Rattle.dsa_book.specs.declared.event.Event.TheVariants as event;
 ghost use Rattle.dsa_base.specs.Rows.{when};
 ghost use Rattle.dsa_explore.specs.declared.walked.Offered.{Offered};
+ghost use Rattle.dsa_explore.specs.Asks.{ask_of};
+ghost use Rattle.dsa_explore.specs.Ready.{is_filled, CannotFollow, IsOneMore};
 ghost use Rattle.dsa_explore.specs.Rows.{labels_of};
-ghost use Rattle.dsa_explore.specs.Search.{IsFine, queue_taken_from};
-ghost use Rattle.dsa_explore.specs.Walked.{CannotBegin, HasNoDevice, IsFirst, IsOffer, ask_of, space_of, world_of};
+ghost use Rattle.dsa_explore.specs.Search.{queue_taken_from};
+ghost use Rattle.dsa_explore.specs.Walked.{HasNoDevice, IsOffer};
 
 use crate::found::Ask;
-use crate::rows::{label_of, labelled_reply};
+use crate::rows::label_of;
 use crate::running::running_on;
-use crate::stored::Try;
 use dsa_book::{BatchNote, Event, Reply, Ticket};
 use dsa_desc::Outcome;
 use dsa_device::MakeFault;
@@ -54,10 +55,16 @@ pub struct Offered {
     pub label: u32,
 }
 
-// A new device. `None` where there is none with these capabilities and this capacity.
-fn new_machine(alloc: Global, caps: Caps, capacity: u64) -> Result<Option<LinkedDevice>, AllocError>
+/// A new device. `None` where there is none with these capabilities and this capacity.
+pub fn new_machine(
+    alloc: Global,
+    caps: Caps,
+    capacity: u64,
+) -> Result<Option<LinkedDevice>, AllocError>
     ensures first { IfOk result
         (λ found. IfSome found (λ machine. machine.device ≡ running_at_first caps capacity)) }
+    ensures some { IfOk result
+        (λ found. IfSome found (λ machine. ¬ (HasNoDevice caps capacity))) }
     ensures none { IfOk result (λ found. IfNone found (HasNoDevice caps capacity)) }
 {
     match LinkedDevice::new(alloc, caps, capacity) {
@@ -67,42 +74,11 @@ fn new_machine(alloc: Global, caps: Caps, capacity: u64) -> Result<Option<Linked
     }
 }
 
-// Whether a name was given.
-fn has_names(machine: &LinkedDevice) -> bool
+/// Whether a name was given.
+pub fn has_names(machine: &LinkedDevice) -> bool
     ensures { result ≡ nat_lt 0 machine.now.device.state.work.setup.next_name }
 {
     machine.device.next_name() > 0
-}
-
-/// A new device after the set-up, with this capacity. `None` where it cannot be made, or an entry
-/// came in.
-pub fn begin(alloc: Global, plan: &Plan<'_>, capacity: u64) -> Result<Option<Walked>, AllocError>
-    ensures fine { IfOk result
-        (λ found. IfSome found
-        (λ walked. IsFine (space_of plan.now.caps plan.now.script.now) (world_of walked))) }
-    ensures begun { capacity ≡ length plan.now.setup.now
-        → IfOk result
-        (λ found. IfSome found
-        (λ walked. IsFirst plan.now.caps plan.now.script.now plan.now.setup.now
-        (world_of walked))) }
-    ensures none { capacity ≡ length plan.now.setup.now
-        → IfOk result (λ found. IfNone found (CannotBegin plan.now.caps plan.now.setup.now)) }
-{
-    let Some(mut machine) = new_machine(alloc, plan.caps, capacity)? else {
-        return Ok(None);
-    };
-    let mut steps = Vec::new(alloc);
-    machine.device.run(plan.setup, &mut steps)?;
-    if has_names(&machine) {
-        return Ok(None);
-    }
-    let labels = Vec::new(alloc);
-    let places = plan.script.first_places(alloc)?;
-    Ok(Some(Walked {
-        machine,
-        labels,
-        places,
-    }))
 }
 
 // What is asked for and brings in nothing, if the engine makes steps.
@@ -207,12 +183,16 @@ pub fn offer(script: &Script, walked: &Walked, by: Move) -> Option<Offered>
     }
 }
 
-// The name has this label, which is that of the last name that has one or of the next. False where
-// it is another.
-fn set_label(labels: &mut Vec<u32>, name: u32, label: u32) -> Result<bool, AllocError>
-    ensures { IfOk result
+/// The name has this label, which is that of the last name that has one or of the next. False where
+/// it is another.
+pub fn set_label(labels: &mut Vec<u32>, name: u32, label: u32) -> Result<bool, AllocError>
+    ensures set { IfOk result
         (λ is_set. is_set ≡ true → labels_of labels.new.items
         ≡ with_label (labels_of labels.old.items) name label) }
+    ensures count { IfOk result (λ is_set. is_set ≡ true → length labels.new.items ≡ name + 1) }
+    ensures unset { IfOk result
+        (λ is_set. is_set ≡ false
+        → (length labels.old.items ≢ name) × (length labels.old.items ≢ name + 1)) }
 {
     let name = name as usize;
     if labels.len() == name + 1 {
@@ -244,14 +224,22 @@ fn find_labelled(labels: &[u32], label: u32, entries: &[(Cell, Entry)]) -> Optio
         .find(|pair| has_label(labels, label, pair))
 }
 
-// The event with the ticket of the running entry that has the label in its place. `None` where none
-// has.
-fn event_by_label(alloc: Global, walked: &Walked, event: Event) -> Result<Option<Event>, AllocError>
-    ensures { IfOk result
+/// The event with the ticket of the running entry that has the label in its place. `None` where
+/// none has.
+pub fn event_by_label(
+    alloc: Global,
+    walked: &Walked,
+    event: Event,
+) -> Result<Option<Event>, AllocError>
+    ensures found { IfOk result
         (λ found. IfSome found
         (λ by_name. event_by_label (labels_of walked.now.labels.items)
         walked.now.machine.device.state event
         ≡ Some by_name)) }
+    ensures none { IfOk result
+        (λ found. IfNone found
+        (event_by_label (labels_of walked.now.labels.items) walked.now.machine.device.state event
+        ≡ None)) }
 {
     let Event::Finish {
         engine,
@@ -277,13 +265,19 @@ fn event_by_label(alloc: Global, walked: &Walked, event: Event) -> Result<Option
     }))
 }
 
-// The step of the event, which takes an entry from the queue if one is named. `None` where it
-// cannot, and where the history has no room.
-fn step_from(machine: &mut LinkedDevice, event: Event, queue: Option<u16>) -> Option<Reply>
+/// The step of the event, which takes an entry from the queue if one is named. `None` where it
+/// cannot, and where the history has no room.
+pub fn step_from(machine: &mut LinkedDevice, event: Event, queue: Option<u16>) -> Option<Reply>
     ensures next { IfSome result
         (λ reply. next machine.old.device.state event reply ≡ Some machine.new.device.state) }
+    ensures answered { IfSome result
+        (λ reply. after_answer machine.old.device event reply ≡ Some machine.new.device) }
     ensures queue { IfSome result
         (λ reply. (q p : ℕ) → queue ≡ Some q → queue_taken_from reply ≡ Some p → q ≡ p) }
+    ensures none { IfNone result
+        (is_filled machine.old.device ≡ false
+        → CannotFollow machine.old.device.state event queue) }
+    ensures room { IfSome result (λ reply. IsOneMore machine.old.device machine.new.device) }
 {
     if machine.device.is_full() {
         return None;
@@ -299,43 +293,6 @@ fn step_from(machine: &mut LinkedDevice, event: Event, queue: Option<u16>) -> Op
         return None;
     };
     Some(Reply::Dispatch(answer))
-}
-
-/// Makes the move, and takes an entry from the queue if one is named. `None` where that cannot be.
-pub fn make(
-    alloc: Global,
-    plan: &Plan<'_>,
-    walked: &mut Walked,
-    tried: Try,
-) -> Result<Option<Reply>, AllocError>
-    ensures leads { IfOk result
-        (λ found. IfSome found
-        (λ reply. world_after (parties_of plan.now.script.now) (world_of walked.old) tried.by
-        reply
-        ≡ Some (world_of walked.new))) }
-    ensures queue { IfOk result
-        (λ found. IfSome found
-        (λ reply. (q p : ℕ)
-        → tried.queue ≡ Some q
-        → queue_taken_from reply ≡ Some p
-        → q ≡ p)) }
-{
-    let Some(offered) = offer(plan.script, walked, tried.by) else {
-        return Ok(None);
-    };
-    let name = walked.machine.device.next_name();
-    if !set_label(&mut walked.labels, name, offered.label)? {
-        return Ok(None);
-    }
-    let Some(event) = event_by_label(alloc, walked, offered.event)? else {
-        return Ok(None);
-    };
-    let Some(reply) = step_from(&mut walked.machine, event, tried.queue) else {
-        return Ok(None);
-    };
-    let told = labelled_reply(walked.labels.as_slice(), reply);
-    plan.script.make_move(&mut walked.places, tried.by, &told);
-    Ok(Some(reply))
 }
 
 /// What the party asks for by this move.

@@ -12,6 +12,7 @@ ghost use Rattle.dsa_book.specs.declared.fate.Fate.TheVariants.{Aborted, Complet
 ghost use Rattle.dsa_explore.specs.declared.found.Ask.TheVariants.{Act, Submission};
 ghost use Rattle.dsa_explore.specs.declared.found.Finding.TheVariants.{Answer, End, Removal, Wait};
 ghost use Rattle.dsa_explore.specs.declared.found.Explored.{Explored};
+ghost use Rattle.dsa_explore.specs.Bounds.{CanReachLongKey, CanReachStates, MetBounds};
 ghost use Rattle.dsa_explore.specs.Counted.{AreKeysReached, CountsStates};
 ghost use Rattle.dsa_explore.specs.Explored.{AreFindings, IsFound};
 ghost use Rattle.dsa_explore.specs.Findings.{findings_of};
@@ -88,6 +89,31 @@ pub fn keys_of_the_idle()
     ensures once { (explored : Explored)
         → CountsStates idle_parties one_key (quiet_world []) explored
         → explored.states ≤ 1 }
+{}
+
+/// Which bounds a search of the idle meets. There is one state, and its key has one byte. The
+/// history of a device has room for 1,048,576 steps.
+pub fn bounds_of_the_idle()
+    ensures one_state { CanReachStates idle_parties one_key (quiet_world []) 1 0 }
+    ensures no_second { ¬ CanReachStates idle_parties one_key (quiet_world []) 2 5 }
+    ensures long { CanReachLongKey idle_parties one_key (quiet_world []) 0 0 }
+    ensures not_long { ¬ CanReachLongKey idle_parties one_key (quiet_world []) 1 5 }
+    ensures states { (explored : Explored)
+        → explored.states ≡ 0
+        → MetBounds (record { states = 0; key_bytes = 1 }) idle_parties one_key (quiet_world []) 4
+        explored }
+    ensures key_bytes { (explored : Explored)
+        → MetBounds (record { states = 9; key_bytes = 0 }) idle_parties one_key (quiet_world []) 4
+        explored }
+    ensures steps { (explored : Explored)
+        → explored.depth ≡ 0
+        → MetBounds (record { states = 9; key_bytes = 9 }) idle_parties one_key (quiet_world [])
+        1048576 explored }
+    ensures none { (explored : Explored)
+        → explored.depth ≡ 0
+        → MetBounds (record { states = 1; key_bytes = 1 }) idle_parties one_key (quiet_world [])
+        1048575 explored
+        → ⊥ }
 {}
 
 /// Where parties begin, and where they cannot: an entry came in, the capabilities are not those of

@@ -1,6 +1,6 @@
 //! The texts that searches of documents give: each document has a set-up and parties.
 
-use dsa_exploration::{Bounds, Exploring};
+use dsa_exploration::{Bounds, Exploring, Form};
 use dsa_scenario::{Render, Rendered, ScenarioFault};
 use std::alloc::{AllocError, Global};
 use std::process::Abort;
@@ -49,9 +49,9 @@ fn joined(alloc: Global, parts: &[&str]) -> Result<String, AllocError> {
 }
 
 // What a search of this document gives.
-fn searched(rt: &impl Abort, alloc: Global, bounds: Bounds, parts: &[&str]) -> Rendered {
+fn searched(rt: &impl Abort, alloc: Global, exploring: Exploring, parts: &[&str]) -> Rendered {
     match joined(alloc, parts) {
-        Ok(document) => (Exploring { bounds }).render(alloc, document.as_bytes()),
+        Ok(document) => exploring.render(alloc, document.as_bytes()),
         Err(_) => panic!(rt; "there is no memory"),
     }
 }
@@ -59,6 +59,7 @@ fn searched(rt: &impl Abort, alloc: Global, bounds: Bounds, parts: &[&str]) -> R
 // What a document with this set-up and these parties is to give: a text, and the fault after it.
 #[derive(Clone, Copy)]
 struct Given {
+    form: Form,
     bounds: Bounds,
     setup: &'static str,
     parties: &'static [&'static str],
@@ -71,7 +72,11 @@ fn gives(rt: &impl Abort, alloc: Global, given: &Given) {
     let _ = parts.extend_from_slice(&[HEAD, ENABLED, given.setup, "]"]);
     let _ = parts.extend_from_slice(given.parties);
     let _ = parts.push("}");
-    match searched(rt, alloc, given.bounds, parts.as_slice()) {
+    let exploring = Exploring {
+        form: given.form,
+        bounds: given.bounds,
+    };
+    match searched(rt, alloc, exploring, parts.as_slice()) {
         Ok(rendering) => {
             assert_eq!(rt; rendering.text.as_str(), given.text);
             assert_eq!(rt; rendering.fault, given.fault);
@@ -86,10 +91,15 @@ const ONE_CLIENT: &[&str] = &[r#","parties":{"clients":[{"steps":["#, MOVE, "]}]
 #[test]
 fn one_client(rt: HostRuntime) {
     let given = Given {
+        form: Form::Table,
         bounds: ENOUGH,
         setup: "",
         parties: ONE_CLIENT,
-        text: "x: accepted [1], completed 01 [3]\n4 states, 11 steps, depth 3, complete\n",
+        text: concat!(
+            "x: accepted [1], completed 01 [3]\n",
+            "ends: all through [3]\n",
+            "4 states, 11 steps, depth 3, complete\n",
+        ),
         fault: None,
     };
     gives(&rt, rt.alloc(), &given);
@@ -110,6 +120,7 @@ fn one_client(rt: HostRuntime) {
 #[test]
 fn one_client_and_a_drain(rt: HostRuntime) {
     let given = Given {
+        form: Form::Table,
         bounds: ENOUGH,
         setup: "",
         parties: &[
@@ -123,9 +134,130 @@ fn one_client_and_a_drain(rt: HostRuntime) {
             "x: accepted [1], completed 01 [3]\n",
             "A0: ended 0 [1], active [2]; waits for x [2]\n",
             "A1: nothing [2], active [3], finished [5]\n",
+            "ends: stuck at A1 [4], all through [5]\n",
             "12 states, 43 steps, depth 5, complete\n",
         ),
         fault: None,
+    };
+    gives(&rt, rt.alloc(), &given);
+}
+
+// Questions, where the search is complete and where it met its bounds.
+#[test]
+fn questions(rt: HostRuntime) {
+    let given = Given {
+        form: Form::Table,
+        bounds: ENOUGH,
+        setup: "",
+        parties: &[
+            r#","parties":{"clients":[{"steps":["#,
+            MOVE,
+            r#"]}]},"never":[{"that":{"entry":"x","is":"aborted"}},"#,
+            r#"{"name":"x ends","that":{"any":[{"entry":"x","is":"completed"}]}}],"#,
+            r#""sometimes":[{"that":{"entry":"x","is":"failed"}}]"#,
+        ],
+        text: concat!(
+            "x: accepted [1], completed 01 [3]\n",
+            "ends: all through [3]\n",
+            "never 0: kept\n",
+            "never x ends: broken [3]\n",
+            "sometimes 2: broken\n",
+            "4 states, 11 steps, depth 3, complete\n",
+        ),
+        fault: Some(ScenarioFault::Broken(1)),
+    };
+    gives(&rt, rt.alloc(), &given);
+    let bounds = Bounds {
+        states: 2,
+        ..ENOUGH
+    };
+    let bounded = Given {
+        bounds,
+        text: concat!(
+            "x: accepted [1]\n",
+            "never 0: kept so far\n",
+            "never x ends: kept so far\n",
+            "sometimes 2: not seen so far\n",
+            "2 states, 4 steps, depth 1, bounded\n",
+        ),
+        fault: Some(ScenarioFault::Incomplete),
+        ..given
+    };
+    gives(&rt, rt.alloc(), &bounded);
+}
+
+// A client, and an administrator who drains and polls, with a question, as JSON objects.
+#[test]
+fn json(rt: HostRuntime) {
+    let given = Given {
+        form: Form::Json,
+        bounds: ENOUGH,
+        setup: "",
+        parties: &[
+            r#","parties":{"clients":[{"steps":["#,
+            MOVE,
+            r#"]}],"admins":[{"steps":["#,
+            DRAIN,
+            r#"]}]},"never":[{"name":"a wait","that":{"command":"A0","waits-for":"x"}}]"#,
+        ],
+        text: concat!(
+            r#"{"entry":"x","what":"accepted","steps":1}"#,
+            "\n",
+            r#"{"entry":"x","what":"completed 01","steps":3}"#,
+            "\n",
+            r#"{"command":"A0","what":"ended 0","steps":1}"#,
+            "\n",
+            r#"{"command":"A0","what":"active","steps":2}"#,
+            "\n",
+            r#"{"command":"A0","what":"waits for x","steps":2}"#,
+            "\n",
+            r#"{"command":"A1","what":"nothing","steps":2}"#,
+            "\n",
+            r#"{"command":"A1","what":"active","steps":3}"#,
+            "\n",
+            r#"{"command":"A1","what":"finished","steps":5}"#,
+            "\n",
+            r#"{"end":"stuck at A1","steps":4}"#,
+            "\n",
+            r#"{"end":"all through","steps":5}"#,
+            "\n",
+            r#"{"question":"a wait","kind":"never","verdict":"broken","steps":2}"#,
+            "\n",
+            r#"{"states":12,"steps":43,"depth":5,"complete":true}"#,
+            "\n",
+        ),
+        fault: Some(ScenarioFault::Broken(0)),
+    };
+    gives(&rt, rt.alloc(), &given);
+}
+
+// The same of a search that met its bounds.
+#[test]
+fn bounded_json(rt: HostRuntime) {
+    let given = Given {
+        form: Form::Json,
+        bounds: Bounds {
+            states: 2,
+            ..ENOUGH
+        },
+        setup: "",
+        parties: &[
+            r#","parties":{"clients":[{"steps":["#,
+            MOVE,
+            r#"]}]},"never":[{"that":{"entry":"x","is":"aborted"}}],"#,
+            r#""sometimes":[{"that":{"entry":"x","is":"failed"}}]"#,
+        ],
+        text: concat!(
+            r#"{"entry":"x","what":"accepted","steps":1}"#,
+            "\n",
+            r#"{"question":"0","kind":"never","verdict":"kept so far"}"#,
+            "\n",
+            r#"{"question":"1","kind":"sometimes","verdict":"not seen so far"}"#,
+            "\n",
+            r#"{"states":2,"steps":4,"depth":1,"complete":false}"#,
+            "\n",
+        ),
+        fault: Some(ScenarioFault::Incomplete),
     };
     gives(&rt, rt.alloc(), &given);
 }
@@ -139,6 +271,7 @@ fn has(
     fault: ScenarioFault,
 ) {
     let given = Given {
+        form: Form::Table,
         bounds: ENOUGH,
         setup,
         parties,
@@ -187,8 +320,27 @@ fn parties_at_fault(rt: HostRuntime) {
 // What a plain run is told is a fault without a text.
 #[test]
 fn a_document_at_fault(rt: HostRuntime) {
-    let Err(fault) = searched(&rt, rt.alloc(), ENOUGH, &[HEAD, "1]}"]) else {
+    let exploring = Exploring {
+        form: Form::Json,
+        bounds: ENOUGH,
+    };
+    let Err(fault) = searched(&rt, rt.alloc(), exploring, &[HEAD, "1]}"]) else {
         panic!(&rt; "there is no fault");
     };
     assert_eq!(&rt; fault, ScenarioFault::BadStep(0));
+}
+
+// Questions come after the parties, and before the set-up.
+#[test]
+fn questions_at_fault(rt: HostRuntime) {
+    let second = &[
+        r#","parties":{"clients":[{"steps":["#,
+        MOVE,
+        r#"]}]},"never":[{"that":{"entry":"x","is":"aborted"}},"#,
+        r#"{"that":{"entry":"y","is":"aborted"}}]"#,
+    ];
+    let fault = ScenarioFault::BadQuestion(1);
+    has(&rt, rt.alloc(), SUBMITTED, second, fault);
+    let parties = &[r#","parties":[],"never":5"#];
+    has(&rt, rt.alloc(), "", parties, ScenarioFault::BadParties);
 }

@@ -2,3 +2,4 @@ pub mod Numbers
 pub mod Line
 pub mod KeyBytes
 pub mod Marks
+pub mod Worked

@@ -4,6 +4,7 @@
 
 pub mod asks;
 pub mod begin;
+pub mod case_rows;
 pub mod laws;
 pub mod making;
 pub mod offer_rows;

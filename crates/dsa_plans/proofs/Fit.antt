@@ -26,13 +26,13 @@ use Rattle.dsa_plans.proofs.Blocks.{Block, block-order, block-ends, last-boundar
 
 -- ---- one after the other
 
-record Added {A : Type 0} (q : A → Bool) (done more : List A) (ds : List Data) : Type 0 where
-  items : List A
-  made : more ≡ done ++ items
-  count : length items ≡ length ds
-  each : list_all q items ≡ true
+pub record Added {A : Type 0} (q : A → Bool) (done more : List A) (ds : List Data) : Type 0 where
+  pub items : List A
+  pub made : more ≡ done ++ items
+  pub count : length items ≡ length ds
+  pub each : list_all q items ≡ true
 
-added : {A : Type 0} (reading : Data → Option A) (q : A → Bool) → ((d : Data) (x : A) → reading d ≡ Some x → q x ≡ true)
+pub added : {A : Type 0} (reading : Data → Option A) (q : A → Bool) → ((d : Data) (x : A) → reading d ≡ Some x → q x ≡ true)
     → (done more : List A) (ds : List Data) → each_onto (read_onto reading) done ds ≡ Some more → Added q done more ds
 added reading q all done more [] h = record {
   items = [];
@@ -58,7 +58,7 @@ added {A = A} reading q all done more (d ∷ ds) h =
           each = and_from (q x) (list_all q rest.items) (all d x e) rest.each;
         }
 
-cond-some : {A : Type 0} (b : Bool) (o : Option A) (x : A) → cond b o None ≡ Some x → (b ≡ true) × (o ≡ Some x)
+pub cond-some : {A : Type 0} (b : Bool) (o : Option A) (x : A) → cond b o None ≡ Some x → (b ≡ true) × (o ≡ Some x)
 cond-some true o x h = (refl, h)
 cond-some false o x h = absurd cc
 

@@ -3,11 +3,12 @@ use Rattle.std.specs.Prelude.{ℕ, false, List, [], ◌∷◌, ◌++◌, codes, 
 use Rattle.serde_json.specs.{Data.{Data, boolean, string, array}, View.{items_of}}
 use Rattle.dsa_desc.specs.declared.Descriptor.{Descriptor}
 use Rattle.dsa_book.specs.declared.event.{Kind.TheVariants.{Movdir64b}, Portal.TheVariants.{Unlimited}}
-use Rattle.dsa_parties.specs.declared.script.{Part.{Part}, ScriptEntry.{ScriptEntry}}
+use Rattle.dsa_parties.specs.declared.script.{Act.{Act}, Part.{Part}, ScriptEntry.{ScriptEntry}}
 use Rattle.dsa_parties.specs.declared.script.{ClientScript.{ClientScript}, Submission.{Submission}}
 use Rattle.dsa_parties.specs.declared.script.Origin.TheVariants.{Submitted, Fetched}
 use Rattle.dsa_parties.specs.declared.script.Outcomes.{Outcomes, TheVariants.{SuccessAlone}}
 use Rattle.dsa_parties.specs.declared.script.RetryPolicy.{RetryPolicy}
+use Rattle.dsa_plans.specs.Plans.{Tables}
 use Rattle.dsa_scenario.specs.Worked.{Fields, fill, fill_text, object_of, step_of_kind, whole}
 
 -- an array
@@ -85,3 +86,7 @@ client_between number first end = record { number = number; part = record { firs
 
 abbrev pub acts_between : ℕ → ℕ → Part
 acts_between first end = record { first = first; end = end }
+
+-- tables with these acts alone
+abbrev pub tables_of_acts : List Act → Tables
+tables_of_acts acts = record { entries = []; clients = []; acts = acts; administrators = []; engines = [] }

@@ -5,7 +5,9 @@
 #![tactic(auto)]
 
 mod acting;
+pub mod case_rows;
 mod labels;
+pub mod laws;
 mod plans;
 pub mod rows;
 mod said;

@@ -1,11 +1,12 @@
 -- Lines that the worked rows speak of.
 use Rattle.dsa_book.specs.declared.answer.Reply.TheVariants as reply
 use Rattle.dsa_book.specs.declared.event.Event.TheVariants as event
-use Rattle.std.specs.Prelude.{ℕ, List, ◌++◌, codes, replicate, ⊤}
+use Rattle.std.specs.Prelude.{ℕ, false, List, ◌++◌, codes, replicate, ⊤}
 use Rattle.hex.specs.Hex.{encode_with}
 use Rattle.dsa_desc.specs.declared.Descriptor.{Descriptor}
-use Rattle.dsa_regs.specs.declared.{Caps.{Caps}, GroupConfig.{GroupConfig}}
+use Rattle.dsa_regs.specs.declared.{Caps.{Caps}, GroupConfig.{GroupConfig}, QueueConfig.{QueueConfig}}
 use Rattle.dsa_book.specs.declared.{answer.Reply.{Reply}, event.Event.{Event}, event.Step.{Step}}
+use Rattle.dsa_book.specs.declared.answer.{NotedError.{NotedError}, Cause.TheVariants.{AtLimit}}
 use Rattle.dsa_book.specs.declared.answer.PollAnswer.TheVariants.{Nothing}
 use Rattle.dsa_scenario.specs.Worked.{digits_on_literals}
 use Rattle.dsa_recordings.specs.{Recordings.{members_of_step}, Texts.{object_text}}
@@ -58,3 +59,43 @@ polled = record { event = event.Poll; reply = reply.Poll Nothing }
 
 abbrev pub polled_line : List ℕ
 polled_line = codes "{\"do\":\"poll\",\"answer\":\"nothing\"}"
+
+-- ---- the largest numbers
+
+abbrev pub largest_desc : Descriptor
+largest_desc = record { pasid = 0; flags = 0; op = 255; size = 4294967295 }
+
+abbrev pub largest_caps : Caps
+largest_caps = record {
+  queues = 65535;
+  groups = 65535;
+  engines = 65535;
+  total_size = 65535;
+  read_buffers = 65535;
+  slots = 65535;
+  max_batch_shift = 255;
+  max_xfer_shift = 255;
+}
+
+abbrev pub largest_queue : QueueConfig
+largest_queue = record {
+  size = 65535;
+  threshold = 65535;
+  dedicated = false;
+  priority = 255;
+  pasid = 4294967295;
+  max_batch_shift = 255;
+  max_xfer_shift = 255;
+}
+
+abbrev pub largest_group : GroupConfig
+largest_group = record {
+  queues = 18446744073709551615;
+  engines = 18446744073709551615;
+  reserved = 65535;
+  allowed = 65535;
+}
+
+-- an error of this queue
+abbrev pub noted_queue_of : ℕ → NotedError
+noted_queue_of queue = record { queue = queue; cause = AtLimit; overflow = false }

@@ -8,6 +8,7 @@
 mod documents;
 pub mod fits;
 pub mod laws;
+pub mod limit_rows;
 mod members;
 pub mod rows;
 mod steps;

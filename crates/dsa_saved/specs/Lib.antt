@@ -4,3 +4,4 @@ pub mod Said
 pub mod Saved
 pub mod Steps
 pub mod Faults
+pub mod Worked

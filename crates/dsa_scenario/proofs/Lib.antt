@@ -4,10 +4,9 @@ pub mod Heads
 pub mod Hex
 pub mod Names
 pub mod Numbers
-pub mod Places
+pub mod Tokens
 pub mod Plain
 pub mod Records
-pub mod ShortSteps
 pub mod StepObjects
 pub mod Streams
 pub mod StreamWrites

@@ -3,8 +3,9 @@ use Rattle.std.specs.Prelude.{◌≡◌, ◌≢◌, ℕ, Bool, true, List, ◌++
 use Rattle.dsa_scenario.specs.declared.faults.ScenarioFault.{ScenarioFault, TheVariants.{Read, TooLong, NotJson}}
 use Rattle.dsa_scenario.specs.declared.faults.ScenarioFault.TheVariants.{BadDocument, BadStep, BadCaps, BadCapacity}
 use Rattle.dsa_scenario.specs.declared.faults.ScenarioFault.TheVariants.{NoParties, BadParties, BadParty}
-use Rattle.dsa_scenario.specs.declared.faults.ScenarioFault.TheVariants.{TooManyParties, BadSetup}
-use Rattle.dsa_scenario.specs.declared.faults.ScenarioFault.TheVariants.{Differs, Incomplete, Write, OutOfMemory}
+use Rattle.dsa_scenario.specs.declared.faults.ScenarioFault.TheVariants.{TooManyParties, BadQuestion, BadSetup}
+use Rattle.dsa_scenario.specs.declared.faults.ScenarioFault.TheVariants.{Differs, Incomplete, Broken, NoSuchRow}
+use Rattle.dsa_scenario.specs.declared.faults.ScenarioFault.TheVariants.{Write, OutOfMemory}
 
 -- the sentence of a fault (profile)
 abbrev pub fault_text : ScenarioFault → List ℕ
@@ -19,9 +20,12 @@ fault_text NoParties = codes "no parties"
 fault_text BadParties = codes "bad parties"
 fault_text (BadParty i) = codes "bad party " ++ decimal i
 fault_text TooManyParties = codes "too many parties"
+fault_text (BadQuestion i) = codes "bad question " ++ decimal i
 fault_text BadSetup = codes "bad set-up"
 fault_text (Differs i) = codes "step " ++ decimal i ++ codes " differs"
 fault_text Incomplete = codes "search incomplete"
+fault_text (Broken i) = codes "question " ++ decimal i ++ codes " is broken"
+fault_text NoSuchRow = codes "no such row"
 fault_text Write = codes "write failed"
 fault_text OutOfMemory = codes "out of memory"
 

@@ -2,7 +2,7 @@ pub mod Faults
 pub mod Fields
 pub mod Actions
 pub mod Document
-pub mod Places
+pub mod Tokens
 pub mod Lines
 pub mod Counted
 pub mod Run

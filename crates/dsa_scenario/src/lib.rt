@@ -8,11 +8,12 @@
 
 mod actions;
 mod counted;
+mod digits;
 mod document;
 mod faults;
 mod fields;
 mod lines;
-mod nodes;
+mod members;
 mod objects;
 mod opening;
 mod reading;
@@ -21,7 +22,6 @@ pub mod rows;
 mod run;
 mod scenario;
 mod script;
-mod short;
 mod sinks;
 mod steps;
 mod streaming;

@@ -1,29 +1,24 @@
 //! What a document asks, as it is read from its text.
 //!
-//! A document is read from the nodes of its text where each of its numbers is whole and without
-//! sign and it nests no deeper than JSON may. Any other text, and one that is no document, is read
-//! by a JSON value, which is slower and takes more memory.
+//! A document is read from the tokens of its text where each of its numbers is whole and without
+//! sign, and no object or array is in it but the steps, their objects and the capabilities. Any
+//! other text, and one that is no document, is read by a JSON value, which is slower and takes more
+//! memory.
 
-ghost use Rattle.std.specs.Prelude.{◌≡◌, ◌⊎◌, ◌<◌, IfOk, IfSome, IfErr, Some, map, vec_len, vec_capacity};
-ghost use Rattle.serde_json.specs.{Data.{Data, Items}, Find.{as_array}, Read.{read}, View.{view}};
-ghost use Rattle.dsa_scenario.specs.Actions.{action_of};
-ghost use Rattle.dsa_scenario.specs.Document.{list_of_items, head_of, IsDocument, IsFirstBad, IsFaultOf};
-ghost use Rattle.dsa_scenario.specs.Places.{data_at, IsScript, PushesAsked};
+ghost use Rattle.std.specs.Prelude.{◌≡◌, ◌⊎◌, ◌<◌, ◌^◌, IfOk, IfSome, IfErr, IsTrue, Some, map, option_map};
+ghost use Rattle.serde_json.specs.{Data.{Data, array, number, unsigned, object, Items, Members, no_members, put}, Read.{read}, View.{view}};
+ghost use Rattle.dsa_scenario.specs.Actions.{action_of, caps_of};
+ghost use Rattle.dsa_scenario.specs.Document.{list_of_items, IsDocument, IsFirstBad, IsFaultOf};
+ghost use Rattle.dsa_scenario.specs.Tokens.{put_all, Reads, ReadsMembers, ReadsSteps, HasParts, IsScript};
 
 use crate::actions::{Action, action_at, caps_at, parse_action};
 use crate::document::{parse_head, parse_json};
 use crate::faults::ScenarioFault;
-use crate::fields::u64_at;
-use crate::nodes::{Place, are_plain};
-use crate::objects::Object;
-use crate::short::push_short;
+use crate::members::{Leaf, Part, read_leaf, read_members};
 use dsa_regs::Caps;
-use json::{Error, Scratch, Tape};
+use json::{Reader, Scratch, Token};
 use serde_json::Value;
 use std::alloc::{AllocError, Global};
-
-// How many nodes a step object has at least: its two brackets, `do` and the text there.
-const LEAST_NODES: usize = 4;
 
 /// The capabilities, the capacity and the actions of a document.
 #[derive(Drop)]
@@ -68,69 +63,166 @@ fn script_by_value(alloc: Global, bytes: &[u8]) -> Result<Script, ScenarioFault>
     })
 }
 
-// Puts what the object at this place asks behind other actions, which have room for it, where it is
-// a step object. Says whether it did.
+// What the object with these members asks, where it is a step object. A call of its own keeps the
+// reading of tokens in one piece.
 #[inline(never)]
-fn push_long(actions: &mut Vec<Action>, object: &Place<'_, '_>) -> bool
-    requires room { vec_len actions.old < vec_capacity actions.old }
-    ensures { PushesAsked (data_at object.now.element) actions.old.items actions.new.items result }
+fn action_of_members(members: &[(&str, Leaf<'_>)]) -> Option<Action>
+    ensures { result ≡ action_of (object (put_all members.now no_members)) }
 {
-    let Some(action) = action_at(object) else {
-        return false;
-    };
-    actions.push_reserved(action);
-    true
+    action_at(&Part::Members(members))
 }
 
-// The same, and sooner of short ones.
-#[inline(always)]
-fn push_step(actions: &mut Vec<Action>, object: &Place<'_, '_>) -> bool
-    requires room { vec_len actions.old < vec_capacity actions.old }
-    ensures { PushesAsked (data_at object.now.element) actions.old.items actions.new.items result }
-{
-    push_short(actions, object) || push_long(actions, object)
-}
-
-// What the items of an array ask, where it is one and each item is a step object. There is room for
-// `most` of them at once.
+// What the step objects behind a bracket ask, as far as the one that closes it. None where not all
+// are step objects whose members are leaves.
 #[inline(never)]
-fn actions_of_items(
-    alloc: Global,
-    list: &Place<'_, '_>,
-    most: usize,
-) -> Result<Option<Vec<Action>>, AllocError>
-    ensures { IfOk result (λ o. IfSome o
-        (λ actions. (items : Items)
-        × (as_array (data_at list.now.element) ≡ Some items)
-        × (map action_of (list_of_items items) ≡ map Some actions.items))) }
+fn read_steps(alloc: Global, reader: &mut Reader<'_>) -> Result<Option<Vec<Action>>, AllocError>
+    ensures { IfOk result
+        (λ o. IfSome o (λ actions. ReadsSteps reader.old actions.items reader.new)) }
 {
-    let Some(mut items) = list.element.items() else {
-        return Ok(None);
-    };
-    let mut actions = Vec::with_capacity(alloc, most)?;
-    while let Some(element) = items.next() {
-        actions.reserve(1)?;
-        if !push_step(&mut actions, &Place { element }) {
-            return Ok(None);
+    let mut members = Vec::new(alloc);
+    let mut actions = Vec::new(alloc);
+    loop {
+        match reader.next() {
+            Some(Token::EndArray) => return Ok(Some(actions)),
+            Some(Token::BeginObject) => {
+                if !read_members(reader, &mut members)? {
+                    return Ok(None);
+                }
+                let Some(action) = action_of_members(&members) else {
+                    return Ok(None);
+                };
+                actions.push(action)?;
+            }
+            _ => return Ok(None),
         }
     }
-    Ok(Some(actions))
 }
 
-// The caps, the capacity and what stands at `steps`, where the document has all three.
-fn head_at<'t, 'a>(document: &Place<'t, 'a>) -> Option<(Caps, u64, Place<'t, 'a>)>
-    ensures { IfSome result
-        (λ head. (items : Items) → as_array (data_at head.2.element) ≡ Some items
-        → head_of (data_at document.now.element) ≡ Some (head.0, head.1, items)) }
+// The capabilities that come next, where they are an object whose members are leaves.
+#[inline(never)]
+fn read_caps(alloc: Global, reader: &mut Reader<'_>) -> Result<Option<Caps>, AllocError>
+    ensures { IfOk result
+        (λ o. IfSome o
+        (λ caps. (d : Data) × Reads 1 reader.old d reader.new × (caps_of d ≡ Some caps))) }
 {
-    let caps = caps_at(&document.get("caps")?)?;
-    let capacity = u64_at(document, "capacity")?;
-    let steps = document.get("steps")?;
-    Some((caps, capacity, steps))
+    let Some(Token::BeginObject) = reader.next() else {
+        return Ok(None);
+    };
+    let mut members = Vec::new(alloc);
+    if !read_members(reader, &mut members)? {
+        return Ok(None);
+    }
+    Ok(caps_at(&Part::Members(&members)))
 }
 
-// The script of a document, by the nodes of its text. None says that its value has to be read.
-fn script_by_nodes(alloc: Global, text: &str) -> Result<Option<Script>, ScenarioFault>
+// The whole number without sign that comes next.
+#[inline(never)]
+fn read_number(reader: &mut Reader<'_>) -> Option<u64>
+    ensures read { IfSome result (λ n. Reads 0 reader.old (number (unsigned n)) reader.new) }
+    ensures fits { IfSome result (λ n. n < 2 ^ 64) }
+{
+    match read_leaf(reader)? {
+        Leaf::Number(number) => Some(number),
+        _ => None,
+    }
+}
+
+// The actions of the step objects that come next as an array.
+fn read_list(alloc: Global, reader: &mut Reader<'_>) -> Result<Option<Vec<Action>>, AllocError>
+    ensures { IfOk result
+        (λ o. IfSome o
+        (λ actions. (steps : Items)
+        × Reads 2 reader.old (array steps) reader.new
+        × (map action_of (list_of_items steps) ≡ map Some actions.items))) }
+{
+    match reader.next() {
+        Some(Token::BeginArray) => read_steps(alloc, reader),
+        _ => Ok(None),
+    }
+}
+
+// What was read so far of a document's three keys.
+#[derive(Drop)]
+struct Parts {
+    caps: Option<Caps>,
+    capacity: Option<u64>,
+    actions: Option<Vec<Action>>,
+}
+
+impl Parts {
+    // The script, where all three are there.
+    fn script(self) -> Option<Script>
+        ensures { IfSome result
+            (λ script. (self.caps ≡ Some script.caps)
+            × (self.capacity ≡ Some script.capacity)
+            × (option_map (λ v. v.items) self.actions ≡ Some script.actions.items)) }
+    {
+        Some(Script {
+            caps: self.caps?,
+            capacity: self.capacity?,
+            actions: self.actions?,
+        })
+    }
+}
+
+// Reads what stands at this key of a document. Says whether it can be read so.
+fn read_part(
+    alloc: Global,
+    reader: &mut Reader<'_>,
+    parts: &mut Parts,
+    key: &str,
+) -> Result<bool, AllocError>
+    ensures { IfOk result
+        (λ good. IsTrue good → (d : Data)
+        × Reads 2 reader.old d reader.new
+        × ((found : Members)
+        → HasParts found parts.old.caps parts.old.capacity
+        (option_map (λ v. v.items) parts.old.actions)
+        → HasParts (put key.now d found) parts.new.caps parts.new.capacity
+        (option_map (λ v. v.items) parts.new.actions))) }
+{
+    match key {
+        "caps" => {
+            parts.caps = read_caps(alloc, reader)?;
+            Ok(parts.caps.is_some())
+        }
+        "capacity" => {
+            parts.capacity = read_number(reader);
+            Ok(parts.capacity.is_some())
+        }
+        "steps" => {
+            parts.actions = read_list(alloc, reader)?;
+            Ok(parts.actions.is_some())
+        }
+        _ => Ok(read_leaf(reader).is_some()),
+    }
+}
+
+// Reads the keys of a document behind its brace, as far as the one that closes it.
+fn read_parts(alloc: Global, reader: &mut Reader<'_>, parts: &mut Parts) -> Result<bool, AllocError>
+    ensures { IfOk result
+        (λ good. IsTrue good → (all : Members)
+        × ReadsMembers 2 reader.old no_members all reader.new
+        × (HasParts no_members parts.old.caps parts.old.capacity
+        (option_map (λ v. v.items) parts.old.actions)
+        → HasParts all parts.new.caps parts.new.capacity
+        (option_map (λ v. v.items) parts.new.actions))) }
+{
+    loop {
+        let Ok(next) = reader.next_key() else {
+            return Ok(false);
+        };
+        let Some(key) = next else {
+            return Ok(true);
+        };
+        if !read_part(alloc, reader, parts, key)? {
+            return Ok(false);
+        }
+    }
+}
+
+// The script of a document, by the tokens of its text. None says that its value has to be read.
+fn script_by_tokens(alloc: Global, text: &str) -> Result<Option<Script>, ScenarioFault>
     ensures ok { IfOk result (λ o. IfSome o
         (λ script. (d : Data)
         × (read text.now ≡ Some d)
@@ -138,28 +230,19 @@ fn script_by_nodes(alloc: Global, text: &str) -> Result<Option<Script>, Scenario
     ensures err { IfErr result (λ e. e ≡ ScenarioFault.OutOfMemory) }
 {
     let mut scratch = Scratch::new(alloc);
-    let tape = match Tape::parse(text, &mut scratch, Vec::new(alloc)) {
-        Ok(tape) => tape,
-        Err(Error::OutOfMemory) => return Err(ScenarioFault::OutOfMemory),
-        Err(_) => return Ok(None),
+    let mut reader = Reader::new(text, &mut scratch)?;
+    let mut parts = Parts {
+        caps: None,
+        capacity: None,
+        actions: None,
     };
-    if !are_plain(tape.nodes()) {
+    let Some(Token::BeginObject) = reader.next() else {
+        return Ok(None);
+    };
+    if !read_parts(alloc, &mut reader, &mut parts)? || reader.next().is_some() {
         return Ok(None);
     }
-    let document = Place {
-        element: tape.root(),
-    };
-    let Some((caps, capacity, steps)) = head_at(&document) else {
-        return Ok(None);
-    };
-    let Some(actions) = actions_of_items(alloc, &steps, tape.len() / LEAST_NODES)? else {
-        return Ok(None);
-    };
-    Ok(Some(Script {
-        caps,
-        capacity,
-        actions,
-    }))
+    Ok(parts.script())
 }
 
 /// The script of the document in these bytes.
@@ -169,7 +252,7 @@ pub fn read_script(alloc: Global, bytes: &[u8]) -> Result<Script, ScenarioFault>
     ensures err { IfErr result (λ e. (e ≡ ScenarioFault.OutOfMemory) ⊎ IsFaultOf bytes.now e) }
 {
     if let Ok(text) = simdutf8::compat::from_utf8(bytes) {
-        if let Some(script) = script_by_nodes(alloc, text)? {
+        if let Some(script) = script_by_tokens(alloc, text)? {
             return Ok(script);
         }
     }

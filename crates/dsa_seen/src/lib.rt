@@ -7,6 +7,7 @@ ghost use Rattle.std.specs.Prelude.{◌≡◌, ◌<◌, ◌≤◌, [], length, s
 ghost use Rattle.dsa_seen.specs.Table.{IsInserted, HasOneNumberEach};
 
 mod chains;
+pub mod rows;
 #[cfg(test)]
 mod tests;
 

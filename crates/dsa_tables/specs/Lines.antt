@@ -3,7 +3,7 @@ use Rattle.std.specs.Prelude.{ℕ, ◌==◌, Bool, false, List, [], ◌∷◌, �
 use Rattle.dsa_explore.specs.declared.found.{Ask.TheVariants.{Submission, Act}, Found.{Found}}
 use Rattle.dsa_explore.specs.declared.found.Finding.{Finding, TheVariants.{Answer, End, Wait, Removal}}
 use Rattle.dsa_tables.specs.declared.parts.Part.{Part, TheVariants.{Entry, Answers, Waits, Removals}}
-use Rattle.dsa_tables.specs.Words.{label_name, row_words}
+use Rattle.dsa_tables.specs.Words.{label_name, removes_words, row_words, waits_words}
 
 -- an entry's part has the answers to its submission and how it ended. An act has three parts: its answers, the entries
 -- that its command waits for, and those that it removed
@@ -17,8 +17,8 @@ is_in_part part finding = false
 
 -- what stands before the first finding of a part
 abbrev pub part_mark : Part → List ℕ
-part_mark (Waits act) = codes "; waits for "
-part_mark (Removals act) = codes "; removes "
+part_mark (Waits act) = codes "; " ++ waits_words
+part_mark (Removals act) = codes "; " ++ removes_words
 part_mark part = codes ": "
 
 -- what stands there where it has none

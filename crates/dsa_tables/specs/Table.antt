@@ -1,9 +1,9 @@
 -- The table of a search.
-use Rattle.std.specs.Prelude.{ℕ, Bool, true, false, List, [], ◌++◌, codes, decimal, flat_map, length}
+use Rattle.std.specs.Prelude.{ℕ, Bool, true, false, List, [], ◌++◌, codes, decimal, flat_map, length, option_map}
 use Rattle.dsa_base.specs.Numbers.{numbers_below}
 use Rattle.dsa_event_text.specs.Text.{count_text}
 use Rattle.dsa_explore.specs.declared.found.{Explored.{Explored}, Found.{Found}}
-use Rattle.dsa_tables.specs.Lines.{entry_line, act_line}
+use Rattle.dsa_tables.specs.{Lines.{entry_line, act_line}, Ends.{ends_line}}
 
 -- the lines of all labels, and then those of all acts (profile)
 abbrev pub table_lines : List (List ℕ) → List (List ℕ) → List Found → List ℕ
@@ -23,8 +23,14 @@ search_line states tried depth is_complete =
     ++ count_text (codes ", ") tried (codes "step") (codes "steps") ++ codes ", depth " ++ decimal depth
     ++ search_end is_complete
 
+-- the lines of all labels and acts, and that of the ends (profile)
+abbrev pub body_text : List (List ℕ) → List (List ℕ) → Explored → List ℕ
+body_text labels acts explored =
+    table_lines labels acts explored.rows.items
+    ++ ends_line labels acts (option_map (λ endings. endings.items) explored.ends)
+
 -- the table of what a search found, with these names of labels and of acts (profile)
 abbrev pub table_text : List (List ℕ) → List (List ℕ) → Explored → List ℕ
 table_text labels acts explored =
-    table_lines labels acts explored.rows.items
+    body_text labels acts explored
     ++ search_line explored.states explored.tried explored.depth explored.is_complete

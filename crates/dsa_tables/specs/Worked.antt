@@ -4,20 +4,22 @@ use Rattle.dsa_book.specs.declared.answer.Reply.TheVariants as reply
 use Rattle.dsa_book.specs.declared.answer.IssueAnswer.TheVariants as issue
 use Rattle.dsa_book.specs.declared.answer.PollAnswer.TheVariants as poll
 use Rattle.std.proofs.Common.{arith}
-use Rattle.std.specs.Prelude.{ℕ, ⊤, false, List, [], ◌∷◌, ◌++◌, codes}
+use Rattle.std.specs.Prelude.{ℕ, ⊤, true, false, List, [], ◌∷◌, ◌++◌, codes, Some, None}
 use Rattle.std.specs.declared.alloc.Global.{Global}
 use Rattle.dsa_book.specs.declared.answer.{Reply.{Reply}, Cause.TheVariants.{AtLimit}}
 use Rattle.dsa_book.specs.declared.answer.SubmitAnswer.{SubmitAnswer, TheVariants.{Accepted, Retry}}
 use Rattle.dsa_book.specs.declared.fate.Fate.{Fate, TheVariants.{Completed, Aborted}}
 use Rattle.dsa_scenario.specs.Worked.{digits_on_literals}
 use Rattle.dsa_parties.specs.{Offers.{label_ticket}, Worked.{vector_in}}
-use Rattle.dsa_explore.specs.declared.found.{Ask.TheVariants.{Submission, Act}, Explored.{Explored}, Found.{Found}}
+use Rattle.dsa_explore.specs.declared.found.{Ask.TheVariants.{Submission, Act}, Ending.{Ending}}
+use Rattle.dsa_explore.specs.declared.found.{Explored.{Explored}, Found.{Found}}
 use Rattle.dsa_explore.specs.declared.found.Finding.TheVariants.{Answer, End, Wait, Removal}
-use Rattle.dsa_tables.specs.Lines.{entry_line, act_line}
+use Rattle.dsa_explore.specs.WorkedEnds.{ending_through}
+use Rattle.dsa_tables.specs.{Lines.{entry_line, act_line}, Ends.{ends_line}, Objects.{row_object, end_object}}
 
 -- what a row unfolds to compute its lines
 unfoldable pub tables_on_literals : ⊤
-unfolding digits_on_literals entry_line act_line
+unfolding digits_on_literals entry_line act_line ends_line row_object end_object
 tables_on_literals = tt
 
 -- the submission with this label is answered so, after so many steps
@@ -68,4 +70,21 @@ first_explored memory = record {
   tried = 11590;
   depth = 15;
   is_complete = false;
+  ends = None;
+}
+
+-- a client and an administrator are stuck, after seven steps
+abbrev pub stuck_twice : Global → Ending
+stuck_twice memory = record {
+  left = vector_in memory (Submission 0 ∷ Act 1 ∷ []) (omega arith);
+  holds_entries = false;
+  steps = 7;
+}
+
+-- a search that found how runs end, and one row
+abbrev pub ended_explored : Global → Explored
+ended_explored memory = record (first_explored memory) {
+  rows = vector_in memory (end_found 1 (Aborted 10) 4 ∷ []) (omega arith);
+  is_complete = true;
+  ends = Some (vector_in memory (ending_through memory 9 ∷ []) (omega arith));
 }

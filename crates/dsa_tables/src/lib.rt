@@ -2,14 +2,25 @@
 //! answered, and with how few steps.
 //!
 //! [`add_table`] adds its text: a line for each label, a line for each act, and a line that says
-//! how far the search came. A finding that may come has its steps in brackets:
-//! `x0: accepted [1], completed 01 [3]`.
+//! how far the search came. [`add_lines`] and [`add_search`] add these parts alone. A finding that
+//! may come has its steps in brackets: `x0: accepted [1], completed 01 [3]`. [`row_named`] finds a
+//! row by what stands before its steps. [`add_objects`] and [`add_search_object`] add the same as
+//! JSON objects, one in each line.
 #![tactic(auto)]
 
+pub mod end_rows;
+mod ends;
 mod lines;
+mod naming;
+pub mod object_rows;
+mod objects;
+pub mod part_rows;
 mod parts;
+pub mod row_names;
 pub mod rows;
 mod table;
 mod words;
 
-pub use table::add_table;
+pub use naming::row_named;
+pub use objects::{add_objects, add_search_object};
+pub use table::{add_lines, add_search, add_table};

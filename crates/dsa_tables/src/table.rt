@@ -2,8 +2,9 @@
 
 ghost use Rattle.std.specs.Prelude.{◌≡◌, map, string_bytes};
 ghost use Rattle.dsa_event_text.specs.Added.{Adds};
-ghost use Rattle.dsa_tables.specs.Table.{search_end, search_line, table_text};
+ghost use Rattle.dsa_tables.specs.Table.{body_text, search_end, search_line, table_text};
 
+use crate::ends::add_ends;
 use crate::lines::{add_acts, add_entries};
 use dsa_event_text::{add_count, add_number};
 use dsa_explore::Explored;
@@ -20,8 +21,8 @@ fn search_end(is_complete: bool) -> &'static str
     }
 }
 
-// How far the search came.
-fn add_search(text: &mut String, explored: &Explored) -> Result<(), AllocError>
+/// Adds the line that says how far the search came.
+pub fn add_search(text: &mut String, explored: &Explored) -> Result<(), AllocError>
     ensures { Adds result text.old text.new
         (search_line explored.now.states explored.now.tried explored.now.depth
         explored.now.is_complete) }
@@ -32,8 +33,26 @@ fn add_search(text: &mut String, explored: &Explored) -> Result<(), AllocError>
     text.push_str(search_end(explored.is_complete))
 }
 
+/// Adds a line for each label, then one for each act of an administrator, both by their names, and
+/// then one of how runs can end, if the search looked for that.
+pub fn add_lines(
+    text: &mut String,
+    labels: &[String],
+    acts: &[String],
+    explored: &Explored,
+) -> Result<(), AllocError>
+    ensures { Adds result text.old text.new
+        (body_text (map string_bytes labels.now) (map string_bytes acts.now) explored.now) }
+{
+    let rows = explored.rows.as_slice();
+    add_entries(text, labels, rows)?;
+    add_acts(text, labels, acts, rows)?;
+    add_ends(text, labels, acts, &explored.ends)
+}
+
 /// Adds the table of a search: a line for each label, then one for each act of an administrator,
-/// both by their names, and then one that says how far the search came.
+/// both by their names, then one of how runs can end, if the search looked for that, and one that
+/// says how far the search came.
 pub fn add_table(
     text: &mut String,
     labels: &[String],
@@ -43,8 +62,6 @@ pub fn add_table(
     ensures { Adds result text.old text.new
         (table_text (map string_bytes labels.now) (map string_bytes acts.now) explored.now) }
 {
-    let rows = explored.rows.as_slice();
-    add_entries(text, labels, rows)?;
-    add_acts(text, labels, acts, rows)?;
+    add_lines(text, labels, acts, explored)?;
     add_search(text, explored)
 }

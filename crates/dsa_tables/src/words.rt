@@ -4,7 +4,7 @@ ghost use Rattle.std.specs.Prelude.{◌≡◌, ◌<◌, ◌++◌, false, map, st
 ghost use Rattle.std.specs.Fmt.{digit_glyph};
 ghost use Rattle.dsa_event_text.specs.Added.{Adds};
 ghost use Rattle.dsa_scenario.specs.Lines.{fate_text, two_digits};
-ghost use Rattle.dsa_tables.specs.Words.{finding_words, label_name, row_words, told_answer};
+ghost use Rattle.dsa_tables.specs.Words.{deed_words, finding_words, label_name, row_words, told_answer, what_words};
 
 use dsa_book::{Event, Fate, Reply, Step, SubmitAnswer};
 use dsa_event_text::{Added, add_number};
@@ -25,7 +25,8 @@ pub fn add_name(text: &mut String, names: &[String], number: usize) -> Added
     }
 }
 
-fn add_label(text: &mut String, labels: &[String], label: u32) -> Added
+/// Adds the name of a label.
+pub fn add_label(text: &mut String, labels: &[String], label: u32) -> Added
     ensures { Adds result text.old text.new (label_name (map string_bytes labels.now) label) }
 {
     add_name(text, labels, label as usize)
@@ -70,6 +71,7 @@ fn add_fate(text: &mut String, fate: Fate) -> Added
     }
 }
 
+// Adds the words of a finding.
 fn add_finding(text: &mut String, labels: &[String], finding: &Finding) -> Added
     ensures { Adds result text.old text.new
         (finding_words (map string_bytes labels.now) finding.now) }
@@ -80,6 +82,26 @@ fn add_finding(text: &mut String, labels: &[String], finding: &Finding) -> Added
         Finding::Wait { label, .. } => add_label(text, labels, label),
         Finding::Removal { label, .. } => add_label(text, labels, label),
     }
+}
+
+// What the act does to the entry of the finding.
+fn deed_words(finding: &Finding) -> &'static str
+    ensures { result.now ≡ deed_words finding.now }
+{
+    match *finding {
+        Finding::Answer { .. } | Finding::End { .. } => "",
+        Finding::Wait { .. } => "waits for ",
+        Finding::Removal { .. } => "removes ",
+    }
+}
+
+/// Adds all that is said of the entry or the act that the finding is about.
+pub fn add_what(text: &mut String, labels: &[String], finding: &Finding) -> Added
+    ensures { Adds result text.old text.new
+        (what_words (map string_bytes labels.now) finding.now) }
+{
+    text.push_str(deed_words(finding))?;
+    add_finding(text, labels, finding)
 }
 
 /// Adds a mark, a finding, and with how many steps it may come.

@@ -259,6 +259,8 @@ class Changes:
 
     def visit(self, node, found):
         self.bound = self.bound | (set(node.value) if node.kind == "function" else {node.value} if node.kind == "let" else set())
+        if node.kind == "do":
+            self.bound = self.bound | {part.value for it in node.value if it for part in it.every() if part.kind == "name"}
         if node.kind == "apply":
             self.lambdas(node)
         if node.kind == "let":

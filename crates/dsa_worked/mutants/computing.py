@@ -1,6 +1,7 @@
 """Computes definitions, so that a mutant is tried at once. What it says is a guess: the checker decides."""
 
 import functools
+import hashlib
 import json
 import os
 import re
@@ -185,6 +186,11 @@ def in_signs(z):
     return list(str(as_int(z)).encode())
 
 
+def in_json_digits(n):
+    """A number of JSON as it is written."""
+    return [] if n.name == "float" else in_digits(10, False, n.arguments[0]) if n.name == "unsigned" else in_signs(n.arguments[0])
+
+
 def as_int(z):
     """A whole number with its sign."""
     return z.arguments[0] if z.name == "pos" else -z.arguments[0] - 1
@@ -297,10 +303,11 @@ LIBRARY = {
     "as_bool": as_kind("boolean"), "as_number": as_kind("number"), "as_str": as_kind("string"), "as_array": as_kind("array"),
     "as_object": as_kind("object"), "as_u64": as_kind("unsigned"), "as_i64": (1, as_i64), "decode_pairs": (2, bytes_of_digits),
     "put": (3, members_with), "items_of": (1, items_of), "encode_lower": (1, lambda bs: list(bytes(bs).hex().encode())),
-    "bit_or": (2, lambda a, b: a | b), "signed_decimal": (1, in_signs), "string_bytes": (1, text_of),
+    "bit_or": (2, lambda a, b: a | b), "bit_xor": (2, lambda a, b: a ^ b), "signed_decimal": (1, in_signs),
+    "number_text": (1, in_json_digits), "sha256": (1, lambda bs: list(hashlib.sha256(bytes(bs)).digest())), "string_bytes": (1, text_of),
     "is_ascii_hexdigit": (1, lambda c: 48 <= c <= 57 or 65 <= c <= 70 or 97 <= c <= 102),
     "suffix_len": (2, lambda f, xs: first_place(lambda x: not f(x), xs[::-1])),
-    "IsTrue": (1, lambda a: a),
+    "IsTrue": (1, lambda a: a), "Contains": (2, lambda xs, x: x in xs),
     "IsSomeAnd": (2, lambda x, f: x.name == "Some" and f(x.arguments[0])),
     "IfSome": (2, lambda x, f: x.name == "None" or f(x.arguments[0])),
     "MatchOption": (3, lambda x, none, f: f(x.arguments[0]) if x.name == "Some" else none),
@@ -582,6 +589,7 @@ TAKEN |= {f"{it}Wq": [{"group": 0, "mask": mask} for mask in NUMBERS] for it in 
 # A field of the records of a type, by which its values are known.
 MARKS = {
     "Descriptor": "op", "QueueConfig": "priority", "GroupConfig": "reserved", "BatchNote": "fetched", "NotedError": "overflow",
+    "Found": "finding",
 }
 
 # Plain values of a type, which are tried with those that are found.
@@ -778,10 +786,10 @@ class Writer:
             self.count += 1
             if self.says_none_of(head, node.parts[1]):
                 values = "[ANY]"
-            elif head.kind == "name" and head.value in ("ℕ", *SOME_OF):
-                values = f"range({MANY})" if head.value == "ℕ" else f"SOME_OF[{head.value!r}]"
+            elif head.kind == "name" and head.value == "ℕ":
+                values = f"range({MANY})"
             else:
-                values = self.values_of(it, node.parts[1], inner)
+                values = self.values_of(it, head, node.parts[1], inner)
             inner[it] = f"x{self.count}"
             loops.append(f"for {inner[it]} in {values}")
         return f"all({self.term(node.parts[1], inner)} {' '.join(loops)})"
@@ -790,8 +798,8 @@ class Writer:
         """Whether something is said of no state."""
         return kind.kind == "name" and kind.value == "State" and node.kind == "apply" and node.parts[0].value == "¬"
 
-    def values_of(self, name, node, local):
-        """The list that this value is said to be in, before an arrow, or what it is said to be the value of."""
+    def values_of(self, name, kind, node, local):
+        """The list that this value is said to be in, before an arrow, or what it is said to be the value of, or some of its type."""
         while node.kind in ("binder", "operator") and (node.kind == "binder" or node.value[0] == "→"):
             first = node.parts[0]
             if first.kind == "apply" and [it.value for it in first.parts[:2]] == ["In", name]:
@@ -800,6 +808,8 @@ class Writer:
             if words == ["Some", name] and first.value[0] == "≡":
                 return f"{self.term(first.parts[0], local)}.arguments"
             node = node.parts[1]
+        if kind.kind == "name" and kind.value in SOME_OF:
+            return f"SOME_OF[{kind.value!r}]"
         raise Stuck("all values of a type")
 
     def of_name(self, node, local):
@@ -811,34 +821,20 @@ class Writer:
             return self.called(head.value, arguments, local)
         return f"applied({', '.join(self.term(it, local) for it in node.parts)})"
 
-    def steps(self, parts, local):
-        """Steps, a line each, of which a name before an arrow stands for what the step gives."""
-        edge = self.column(parts[0])
-        starts = [i for i, it in enumerate(parts) if self.column(it) == edge]
-        some = [parts[i:j] for i, j in zip(starts, [*starts[1:], len(parts)])]
-        return self.after_steps(some, local)
+    def of_do(self, node, local):
+        """Steps, of which a name stands for what its step gives, and the last one gives what all do."""
+        return self.after_steps(list(zip(node.value, node.parts)), local)
 
-    def after_steps(self, some, local):
-        first, *rest = some
-        is_named = len(first) > 2 and self.is_arrow(first[1])
-        whole = first[2:] if is_named else first
-        node = whole[0] if len(whole) == 1 else Node("apply", whole[0].start, whole[-1].end, None, whole)
-        given = self.term(node, local)
+    def after_steps(self, steps, local):
+        (name, term), *rest = steps
+        given = self.term(term, local)
         if not rest:
             return given
         self.count += 1
         place, inner = f"x{self.count}", dict(local)
-        if is_named:
-            self.pattern(first[0], place, [], inner)
+        if name:
+            self.pattern(name, place, [], inner)
         return f"then({given}, lambda {place}: {self.after_steps(rest, inner)})"
-
-    def is_arrow(self, node):
-        return node.kind == "name" and node.value == "←"
-
-    def column(self, node):
-        """The column of a part that is the first of its line."""
-        line = self.module.text.rfind("\n", 0, node.start) + 1
-        return node.start - line if not self.module.text[line:node.start].strip() else None
 
     def called(self, name, arguments, local):
         if name == "¬" and name not in local:
@@ -846,8 +842,6 @@ class Writer:
             if len(arguments) > 1:
                 inner = Node("apply", inner.start, arguments[-1].end, None, arguments)
             return f"(not {self.term(inner, local)})"
-        if name == "do" and name not in local:
-            return self.steps(arguments, local)
         if name in UNSEEN and name not in local:
             return "None"
         given = [self.term(it, local) for it in arguments]

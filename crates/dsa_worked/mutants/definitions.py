@@ -27,6 +27,8 @@ class Token:
     text: str
     start: int
     end: int
+    # The column, if it is the first of its line.
+    edge: int = None
 
 
 @dataclass
@@ -77,7 +79,9 @@ def tokens_of(text, at=0):
         if not it:
             raise Unknown(f"{text[place:place + 20]!r}")
         if it.lastgroup not in ("space", "comment"):
-            found.append(Token(it.lastgroup, it.group(), at + it.start(), at + it.end()))
+            line = text[text.rfind("\n", 0, place) + 1:place]
+            edge = None if line.strip() else len(line)
+            found.append(Token(it.lastgroup, it.group(), at + it.start(), at + it.end(), edge))
         place = it.end()
     return found
 
@@ -89,9 +93,11 @@ class Reader:
         self.tokens, self.at = tokens, 0
         # The names of the functions around, of which one may be a word such as 'then'.
         self.bound = []
+        # Where the step ends that is read.
+        self.last = len(tokens)
 
     def peek(self, ahead=0):
-        return self.tokens[self.at + ahead] if self.at + ahead < len(self.tokens) else None
+        return self.tokens[self.at + ahead] if self.at + ahead < self.last else None
 
     def sees(self, *texts):
         return self.peek() is not None and self.peek().kind != "text" and self.peek().text in texts
@@ -155,6 +161,8 @@ class Reader:
             return self.let(it)
         elif it.text == "if":
             return self.choice(it)
+        elif it.text == "do" and self.peek() and self.peek().edge is not None:
+            return self.steps(it)
         elif it.text == "record":
             node = self.record(it)
         elif re.fullmatch(r"0x[0-9a-fA-F_]+|[0-9][0-9_]*", it.text):
@@ -177,7 +185,8 @@ class Reader:
         while not self.sees("."):
             if self.sees("("):
                 self.take("(")
-                names.append(self.take().text)
+                while not self.sees(":"):
+                    names.append(self.take().text)
                 self.take(":")
                 self.term()
                 self.take(")")
@@ -250,6 +259,26 @@ class Reader:
         self.take("else")
         no = self.term()
         return Node("if", first.start, no.end, None, [test, yes, no])
+
+    def steps(self, first):
+        """Steps, a line each: a name, or none, with a term that gives its value. All lines of a step but the first are indented."""
+        edge, last, names, parts = self.peek().edge, self.last, [], []
+        while self.peek() and self.peek().edge == edge:
+            here = self.at
+            self.last = next((i for i in range(here + 1, last) if self.is_next_step(i, edge)), last)
+            name = self.single()
+            if self.sees("←"):
+                self.take("←")
+            else:
+                name, self.at = None, here
+            names.append(name)
+            parts.append(self.term())
+            self.last = last
+        return Node("do", first.start, parts[-1].end, names, parts)
+
+    def is_next_step(self, i, edge):
+        token = self.tokens[i]
+        return token.edge is not None and token.edge <= edge and token.text not in (")", "}")
 
     def record(self, first):
         parts, fields = [], []

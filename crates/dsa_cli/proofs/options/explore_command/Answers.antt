@@ -6,5 +6,6 @@ pub returns-clause-app : goal.returns-clause-app
 returns-clause-app c =
     let none = c.plain_command-command.ensures.app in
     let one = c.in_ok-command.ensures.app ∙ ap₂ with_rule none refl in
-    IfOk-weaker c.with_number-2.result _ _ (λ command app. app ∙ ap₂ with_rule one refl)
-    c.with_number-2.ensures.app
+    let two = c.in_ok-command-2.ensures.app ∙ ap₂ with_rule one refl in
+    let three = c.in_ok-command-3.ensures.app ∙ ap₂ with_rule two c.text_option.ensures.rule in
+    IfOk-weaker c.with_flag.result _ _ (λ command app. app ∙ ap₂ with_rule three refl) c.with_flag.ensures.app

@@ -1,16 +1,19 @@
 use Rattle.dsa_cli.proofs.rows.asked.Goals as goal
+use Rattle.dsa_exploration.specs.declared.exploration.Form.TheVariants as exploration
 use Rattle.std.proofs.Common.{◌≡◌, ◌⊎◌, ◌∙◌, List, [], ◌∷◌, codes, Option, Some, unwrap_or}
 use Rattle.std.proofs.Common.{inl, inr, refl, sym}
 use Rattle.std.proofs.Common.{ap, subst, arith, lit≤, lit<}
 use Rattle.std.specs.Str.Parse.{IsNumeral}
-use Rattle.std.specs.Prelude.{option_and_then}
+use Rattle.std.specs.{Prelude.{option_and_then}, Option.{option_map_or}}
 use Rattle.clap.specs.Walk.{Row, Text, first_of, one_of}
 use Rattle.dsa_chosen.specs.Words.{unknown_word}
 use Rattle.clap.specs.declared.error.kind.ErrorKind.{ErrorKind, TheVariants.{DisplayHelp, DisplayVersion, UnknownArgument}}
 use Rattle.clap.proofs.OnLiterals.{clap_on_literals}
-use Rattle.dsa_cli.specs.declared.options.WrongValue.TheVariants.{Answer}
+use Rattle.dsa_cli.specs.declared.options.WrongValue.TheVariants.{Answer, ShowAndJson}
 use Rattle.clap.specs.Kinds.{IsAmong}
-use Rattle.dsa_cli.specs.{CommandLine.{IsMistaken, IsReportName, faults_of_words}, Worked.{load, lent_text}}
+use Rattle.dsa_exploration.specs.declared.exploration.Form.{Form}
+use Rattle.dsa_cli.specs.CommandLine.{IsMistaken, IsReportName, faults_of_words, search_form}
+use Rattle.dsa_cli.specs.Worked.{load, lent_text}
 use Rattle.dsa_cli.proofs.Choices.{first_given, first_left_out, lines_form, table_form, when_given, when_left_out}
 use Rattle.dsa_cli.proofs.DecidedLoads.{said_bounds, said_numbers}
 use Rattle.dsa_cli.proofs.LinesChosen.{none_chosen, says_given}
@@ -156,17 +159,48 @@ returns-clause-count c = (_, (refl, refl, inr (inr (inr (inl refl)))), refl)
 pub returns-clause-explore : goal.returns-clause-explore
 unfolding clap_on_literals
 returns-clause-explore c =
-    (_, (refl, refl, inr (inr (inr (inr (inr (inr (inr refl))))))), (refl, said_bounds _ _ refl refl))
+    (_, (refl, refl, inr (inr (inr (inr (inr (inr (inr refl))))))), (refl, said_bounds _ _ refl refl, refl, refl))
+
+pub returns-clause-show : goal.returns-clause-show
+unfolding clap_on_literals
+returns-clause-show c =
+    (_, (refl, refl, inr (inr (inr (inr (inr (inr (inr refl))))))), (refl, said_bounds _ _ refl refl, refl, refl))
+
+pub returns-clause-json_explore : goal.returns-clause-json_explore
+unfolding clap_on_literals
+returns-clause-json_explore c =
+    (_, (refl, refl, inr (inr (inr (inr (inr (inr (inr refl))))))), (refl, said_bounds _ _ refl refl, refl, refl))
+
+pub returns-clause-json_and_show : goal.returns-clause-json_and_show
+unfolding clap_on_literals
+returns-clause-json_and_show c = (_, (refl, refl, inr (inr (inr (inr (inr (inr (inr refl))))))), (refl, refl, refl))
+
+-- the form of a search that the options of `explore` ask for
+abbrev form_in : Option (Text × List Row) → Form
+form_in found = option_map_or (λ (p : Text × List Row). search_form p.1) found exploration.Table
+
+pub returns-clause-no_json : goal.returns-clause-no_json
+unfolding clap_on_literals
+returns-clause-no_json c asks = let same = ap form_in asks.1.1 ∙ sym asks.2.3 in cc
+
+pub returns-clause-no_table : goal.returns-clause-no_table
+unfolding clap_on_literals
+returns-clause-no_table c asks = let same = ap form_in asks.1.1 ∙ sym asks.2.3 in cc
+
+pub returns-clause-mistaken_show : goal.returns-clause-mistaken_show
+unfolding clap_on_literals
+returns-clause-mistaken_show c =
+    inr (inr (ShowAndJson, (_, (refl, refl, inr (inr (inr (inr (inr (inr (inr refl))))))), (refl, refl, refl))))
 
 pub returns-clause-few_states : goal.returns-clause-few_states
 unfolding clap_on_literals
 returns-clause-few_states c =
-    (_, (refl, refl, inr (inr (inr (inr (inr (inr (inr refl))))))), (refl, said_bounds _ _ refl refl))
+    (_, (refl, refl, inr (inr (inr (inr (inr (inr (inr refl))))))), (refl, said_bounds _ _ refl refl, refl, refl))
 
 pub returns-clause-long_keys : goal.returns-clause-long_keys
 unfolding clap_on_literals
 returns-clause-long_keys c =
-    (_, (refl, refl, inr (inr (inr (inr (inr (inr (inr refl))))))), (refl, said_bounds _ _ refl refl))
+    (_, (refl, refl, inr (inr (inr (inr (inr (inr (inr refl))))))), (refl, said_bounds _ _ refl refl, refl, refl))
 
 pub returns-clause-other_states : goal.returns-clause-other_states
 unfolding clap_on_literals

@@ -107,3 +107,18 @@ returns-clause-no_range c = (refl, refl, refl)
 pub returns-clause-a_range : goal.returns-clause-a_range
 unfolding clap_on_literals
 returns-clause-a_range c is = let none = is.2 in cc
+
+pub returns-clause-show_and_json : goal.returns-clause-show_and_json
+unfolding clap_on_literals
+returns-clause-show_and_json c = (refl, refl, refl)
+
+pub returns-clause-show_alone : goal.returns-clause-show_alone
+unfolding clap_on_literals
+returns-clause-show_alone c is = let none = is.2 in cc
+
+pub returns-clause-json_alone : goal.returns-clause-json_alone
+unfolding clap_on_literals
+returns-clause-json_alone c is = let none = is.1 in cc
+
+pub returns-clause-of_no_trace : goal.returns-clause-of_no_trace
+returns-clause-of_no_trace c is = omega (arith, same_first is.0)

@@ -138,7 +138,43 @@ returns-clause-no_friendly c asked = let same = asked.2.left_out refl in cc
 
 pub returns-clause-asks_explore : goal.returns-clause-asks_explore
 unfolding clap_on_literals
-returns-clause-asks_explore c = (refl, said_bounds _ _ refl refl)
+returns-clause-asks_explore c = (refl, said_bounds _ _ refl refl, refl, refl)
+
+pub returns-clause-asks_show : goal.returns-clause-asks_show
+unfolding clap_on_literals
+returns-clause-asks_show c = (refl, said_bounds _ _ refl refl, refl, refl)
+
+pub returns-clause-asks_json_lines : goal.returns-clause-asks_json_lines
+unfolding clap_on_literals
+returns-clause-asks_json_lines c = (refl, said_bounds _ _ refl refl, refl, refl)
+
+pub returns-clause-asks_a_table : goal.returns-clause-asks_a_table
+unfolding clap_on_literals
+returns-clause-asks_a_table c = (refl, said_bounds _ _ refl refl, refl, refl)
+
+pub returns-clause-json_is_no_table : goal.returns-clause-json_is_no_table
+unfolding clap_on_literals
+returns-clause-json_is_no_table c asked = let same = asked.3 in cc
+
+pub returns-clause-a_table_is_no_json : goal.returns-clause-a_table_is_no_json
+unfolding clap_on_literals
+returns-clause-a_table_is_no_json c asked = let same = asked.3 in cc
+
+pub returns-clause-shows_no_row_in_json : goal.returns-clause-shows_no_row_in_json
+unfolding clap_on_literals
+returns-clause-shows_no_row_in_json c asked = let none = asked.3 in cc
+
+pub returns-clause-shows_no_table : goal.returns-clause-shows_no_table
+unfolding clap_on_literals
+returns-clause-shows_no_table c asked = let none = asked.2 in cc
+
+pub returns-clause-no_row : goal.returns-clause-no_row
+unfolding clap_on_literals
+returns-clause-no_row c asked = let none = asked.2 in cc
+
+pub returns-clause-other_row : goal.returns-clause-other_row
+unfolding clap_on_literals
+returns-clause-other_row c asked = let other = asked.2 in cc
 
 pub returns-clause-other_bounds : goal.returns-clause-other_bounds
 unfolding clap_on_literals

@@ -33,6 +33,9 @@ returns-clause-drawing c bytes text is = is.1
 pub returns-clause-exploration : goal.returns-clause-exploration
 returns-clause-exploration c bytes text is = is
 
+pub returns-clause-row_shown : goal.returns-clause-row_shown
+returns-clause-row_shown c bytes text is = is
+
 pub returns-clause-conformance : goal.returns-clause-conformance
 returns-clause-conformance c bytes text is = is
 

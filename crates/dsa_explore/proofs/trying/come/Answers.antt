@@ -1,7 +1,16 @@
 use Rattle.dsa_explore.proofs.trying.come.Goals as goal
+use Rattle.std.proofs.Common.{◌∙◌, refl, sym, arith}
+use Rattle.std.proofs.lemmas.Bool.{eqb-true}
 
-pub returns-then-not-is_full : goal.returns-then-not-is_full
-returns-then-not-is_full c = λ first table x is at there. there c.if-is_there.true
+pub returns-then-not-is_full-clause-there : goal.returns-then-not-is_full-clause-there
+returns-then-not-is_full-clause-there c = λ first table x begun is at there. there c.if-is_there.true
 
-pub returns : goal.returns
-returns c = λ first table x is at there. (rw c.in-Some.is at c.in_ok-again.ensures) first table x is at
+pub returns-clause-there : goal.returns-clause-there
+returns-clause-there c = λ first table x begun is at there.
+    (rw c.in-Ok.is at c.in_ok-again.ensures.there) first table x begun is at
+
+pub returns-then-is_full-clause-halted : goal.returns-then-is_full-clause-halted
+returns-then-is_full-clause-halted c = λ first table x begun is at.
+    let left = (rw c.in-Ok.is at c.in_ok-again.ensures.room) first table x is at in
+    let full = eqb-true _ _ (sym c.is_full-2.ensures ∙ c.if-is_full.true) in
+    (refl, omega (arith, full, left.few, left.room_is))

@@ -1,0 +1,11 @@
+pub mod Filters
+pub mod Runs
+pub mod Submissions
+pub mod Acts
+pub mod Named
+pub mod Stands
+pub mod Lines
+pub mod Works
+pub mod Walks
+pub mod Orders
+pub mod Logs
