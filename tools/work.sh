@@ -78,7 +78,7 @@ report_crates() { # NUMBER
 # Proves the crates of a copy of the repository, as the gate does, and names each of NUMBER.
 prove_crates() { # COPY NUMBER WHAT
     local status=0
-    start_work in_folder "$1" rt ci
+    start_work in_folder "$1" "$top/tools/prove-crates"
     tail -f -s 0.5 --pid="$worker" -n +1 "$room/log" 2>/dev/null | report_crates "$2" &
     end_work || status=$?
     wait

@@ -38,8 +38,8 @@ pub record IsRunnable (bytes : List ℕ) (document : Data) (caps : Caps) (action
   pub asked : map action_of (list_of_items items) ≡ map Some actions
   pub opens : IsOpenable caps capacity
 
--- a plain run of the bytes can begin; its steps are this set-up, its parties have this script, and their entries and
--- acts have these names (profile)
+-- a plain run of the bytes can begin; its steps are this set-up, its parties have this script and remember nothing, and
+-- their entries and acts have these names (profile)
 pub record IsPlan
     (bytes : List ℕ) (caps : Caps) (script : Script) (setup : List Event) (labels acts : List (List ℕ))
     : Type 0 where
@@ -48,5 +48,6 @@ pub record IsPlan
   pub runnable : IsRunnable bytes document caps actions
   pub events : setup ≡ setup_events actions
   pub said : parties_said caps.engines document ≡ Ok (tables_of script)
+  pub no_watches : script.watches.items ≡ []
   pub entries_called : option_map entry_labels (get (codes "parties") document) ≡ Some labels
   pub acts_called : option_map act_labels (get (codes "parties") document) ≡ Some acts

@@ -20,5 +20,6 @@ script_of_nobody memory = record {
   acts = vector_in memory [] (omega arith);
   administrators = vector_in memory [] (omega arith);
   engines = vector_in memory (0 ∷ []) (omega arith);
+  watches = vector_in memory [] (omega arith);
   fits = refl;
 }

@@ -3,20 +3,20 @@ use Rattle.std.proofs.Common.{◌≡◌, ◌≢◌, ℕ, zero, suc, ◌<◌, ◌
 use Rattle.std.proofs.Common.{None}
 use Rattle.std.proofs.Common.{refl, sym, ap, ◌∙◌, subst, length, get_or, ⊎_elim, arith, get_or-set_other}
 use Rattle.std.proofs.Common.{get_or-set_same}
-use Rattle.std.specs.Prelude.{option_map, option_and_then, unwrap_or, slice_set}
+use Rattle.std.specs.Prelude.{map, option_map, option_and_then, unwrap_or, slice_set}
 use Rattle.std.proofs.lemmas.Bool.{cases_eq, eq-eqb, ne_eqb}
-use Rattle.dsa_book.specs.declared.{event.Event.{Event}, answer.Reply.{Reply}}
+use Rattle.dsa_book.specs.declared.{event.Event.{Event}, answer.Reply.{Reply}, fate.FateRow.{FateRow}}
 use Rattle.dsa_book.specs.{State.{State}, Machine.{next}}
-use Rattle.dsa_keys.specs.Labels.{Labels, with_label, labelled_reply}
+use Rattle.dsa_keys.specs.Labels.{Labels, with_label, labelled_reply, labelled_row}
 use Rattle.dsa_keys.specs.Steps.{event_by_label}
 use Rattle.dsa_keys.specs.Parties.{Offer, World, offer_at, labels_for, world_with, world_after, world_after_offer}
 use Rattle.dsa_device.specs.Running.{Running, after_answer, running_after}
 use Rattle.dsa_parties.specs.declared.{places.Move.{Move}, script.Script.{Script}}
-use Rattle.dsa_parties.specs.{Standing.{Standing, standing_after}, Offers.{parties_of}}
+use Rattle.dsa_parties.specs.{Standing.{Standing}, Watches.{moved_by}, Offers.{parties_of}}
 use Rattle.dsa_book.specs.declared.answer.{DispatchAnswer.{DispatchAnswer, TheVariants.{Taken, Idle, Full}}}
 use Rattle.dsa_book.specs.declared.answer.Reply.TheVariants.{Dispatch}
 use Rattle.dsa_book.specs.Choice.{choice_of, from_queue}
-use Rattle.dsa_explore.specs.{Rows.{labels_of}, Search.{queue_taken_from}}
+use Rattle.dsa_explore.specs.{Findings.{rows_of_step}, Rows.{labels_of}, Search.{queue_taken_from}}
 
 -- ---- labels
 
@@ -63,19 +63,24 @@ answer-next d d' event reply h room = mapped d d' event reply (next d.state even
 
 -- ---- moves
 
--- the offer was made, and the parties went on by what was told of the reply
+-- where all stand after a step with this reply and these rows, by labels
+abbrev pub moved_with : Script → Standing → Move → Labels → Reply → List FateRow → Standing
+moved_with script stand move labels reply rows =
+    moved_by script stand move (labelled_reply labels reply) (map (labelled_row labels) rows)
+
+-- the offer was made, and the parties went on by what was told of the reply and of what ended
 pub made : (script : Script) (w w' : World Standing) (move : Move) (reply : Reply) (o : Offer) (event : Event)
     → offer_at (parties_of script) w move ≡ Some o → w'.labels ≡ labels_for w o
     → event_by_label w'.labels w.state o.event ≡ Some event → next w.state event reply ≡ Some w'.state
-    → w'.places ≡ standing_after script w.places move (labelled_reply w'.labels reply)
+    → w'.places ≡ moved_with script w.places move w'.labels reply (rows_of_step w.state w'.state)
     → world_after (parties_of script) w move reply ≡ Some w'
 made script w w' move reply o event offered labels found step places =
     let parties = parties_of script in
     let found' : event_by_label (labels_for w o) w.state o.event ≡ Some event =
     subst (λ (m : Labels). event_by_label m w.state o.event ≡ Some event) labels found in
-    let places' : standing_after script w.places move (labelled_reply (labels_for w o) reply) ≡ w'.places =
-    sym (subst (λ (m : Labels). w'.places ≡ standing_after script w.places move (labelled_reply m reply)) labels places)
-    in
+    let rows = rows_of_step w.state w'.state in
+    let places' : moved_with script w.places move (labels_for w o) reply rows ≡ w'.places =
+    sym (subst (λ (m : Labels). w'.places ≡ moved_with script w.places move m reply rows) labels places) in
     ap (option_and_then (world_after_offer parties w move reply)) offered
     ∙ ap (λ (z : Option Event). option_map (world_with parties w move reply o)
     (option_and_then (λ e. next w.state e reply) z)) found'

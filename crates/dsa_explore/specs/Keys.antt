@@ -1,7 +1,7 @@
 -- The key of a world in bytes.
-use Rattle.std.specs.Prelude.{ℕ, List, ◌++◌, length, flat_map}
+use Rattle.std.specs.Prelude.{ℕ, Bool, List, ◌++◌, length, flat_map}
 use Rattle.dsa_keys.specs.{Short.{short_key}, Parties.{World}}
-use Rattle.dsa_key_bytes.specs.{Numbers.{number_bytes}, KeyBytes.{key_bytes}}
+use Rattle.dsa_key_bytes.specs.{Numbers.{number_bytes}, KeyBytes.{number_of_flag, key_bytes}}
 use Rattle.dsa_parties.specs.declared.places.ClientPlace.{ClientPlace}
 use Rattle.dsa_parties.specs.Standing.{Standing}
 
@@ -13,10 +13,16 @@ counted_bytes bytes xs = number_bytes (length xs) ++ flat_map bytes xs
 abbrev pub client_bytes : ClientPlace → List ℕ
 client_bytes place = number_bytes place.next ++ number_bytes place.refusals
 
--- the bytes of where all parties stand
-abbrev pub place_bytes : Standing → List ℕ
-place_bytes stand = counted_bytes client_bytes stand.clients ++ counted_bytes number_bytes stand.administrators
+-- the byte of whether something has come
+abbrev pub mark_bytes : Bool → List ℕ
+mark_bytes came = number_bytes (number_of_flag came)
 
--- the bytes of a world: where the parties stand, and the short key of the state
+-- the bytes of where all parties stand, and of what they remember
+abbrev pub place_bytes : Standing → List ℕ
+place_bytes stand =
+    counted_bytes client_bytes stand.clients
+    ++ (counted_bytes number_bytes stand.administrators ++ counted_bytes mark_bytes stand.came)
+
+-- the bytes of a world: where the parties stand, what they remember, and the short key of the state
 abbrev pub world_bytes : World Standing → List ℕ
 world_bytes w = place_bytes w.places ++ key_bytes (short_key w.labels w.state)

@@ -58,9 +58,10 @@ still_script memory = record {
   acts = vector_in memory [] (omega arith);
   administrators = vector_in memory [] (omega arith);
   engines = vector_in memory [] (omega arith);
+  watches = vector_in memory [] (omega arith);
   fits = refl;
 }
 
 -- nobody stands anywhere
 abbrev pub nowhere : Standing
-nowhere = record { clients = []; administrators = [] }
+nowhere = record { clients = []; administrators = []; came = [] }

@@ -52,6 +52,7 @@ polling_script memory = record {
   acts = vector_in memory (act.Poll Once ∷ []) (omega arith);
   administrators = vector_in memory (part_between 0 1 ∷ []) (omega arith);
   engines = vector_in memory [] (omega arith);
+  watches = vector_in memory [] (omega arith);
   fits = refl;
 }
 

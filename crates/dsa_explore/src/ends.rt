@@ -186,7 +186,7 @@ fn none_leads_on(
     alloc: Global,
     plan: &Plan<'_>,
     search: &Search,
-    at_first: Walked,
+    at_first: Box<Walked>,
     number: u32,
     tries: &[Try],
     key: &mut Key,
@@ -198,8 +198,8 @@ fn none_leads_on(
         → IsFirst plan.now.caps plan.now.script.now plan.now.setup.now first
         → IsSearch (space_of plan.now.caps plan.now.script.now) first search.now table
         → slice_get table number ≡ Some x
-        → IsThere (space_of plan.now.caps plan.now.script.now) x (world_of at_first)
-        → HasLabels at_first
+        → IsThere (space_of plan.now.caps plan.now.script.now) x (world_of at_first.value)
+        → HasLabels at_first.value
         → key.old.line.capacity ≡ search.now.seen.width
         → AreDecided (space_of plan.now.caps plan.now.script.now) x tries.now none)) }
     ensures none { IfOk result

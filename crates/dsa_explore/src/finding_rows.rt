@@ -10,7 +10,7 @@ ghost use Rattle.dsa_book.specs.declared.answer.Reply.TheVariants as reply;
 ghost use Rattle.dsa_book.specs.declared.fate.Fate.TheVariants.{Aborted};
 ghost use Rattle.dsa_parties.specs.declared.places.Move.TheVariants as moves;
 ghost use Rattle.dsa_parties.specs.Offers.{label_ticket};
-ghost use Rattle.dsa_parties.specs.Worked.{all_at, place_at, worked_script};
+ghost use Rattle.dsa_parties.specs.Worked.{all_at, place_at, remembering, worked_script};
 ghost use Rattle.dsa_explore.specs.declared.found.Ask.TheVariants.{Act, Submission};
 ghost use Rattle.dsa_explore.specs.declared.found.Finding.TheVariants.{Answer, End, Removal, Wait};
 ghost use Rattle.dsa_explore.specs.Counted.{FoundNothing};
@@ -37,11 +37,17 @@ pub fn told_of_all()
         (ended_so 3 None (Aborted 4) ∷ []) (10 ∷ 20 ∷ []) ≡ End 43 (Aborted 4) ∷ [] }
 {}
 
-/// The bytes of where parties stand.
+/// The bytes of where parties stand, and of what they remember: other memory has other bytes.
 #[tactic(auto, unfolding(dsa_key_bytes::specs::Numbers::number_bytes))]
 pub fn bytes_of_places()
     ensures places { place_bytes (all_at (place_at 0 3) (place_at 4 2) 1 300)
-        ≡ 2 ∷ 0 ∷ 3 ∷ 4 ∷ 2 ∷ 2 ∷ 1 ∷ 172 ∷ 2 ∷ [] }
+        ≡ 2 ∷ 0 ∷ 3 ∷ 4 ∷ 2 ∷ 2 ∷ 1 ∷ 172 ∷ 2 ∷ 4 ∷ 0 ∷ 0 ∷ 0 ∷ 0 ∷ [] }
+    ensures memory { map (λ came. place_bytes (remembering came))
+        ((false ∷ true ∷ []) ∷ (true ∷ false ∷ []) ∷ (true ∷ []) ∷ [] ∷ [])
+        ≡ (2 ∷ 3 ∷ 0 ∷ 4 ∷ 0 ∷ 2 ∷ 1 ∷ 3 ∷ 2 ∷ 0 ∷ 1 ∷ [])
+        ∷ (2 ∷ 3 ∷ 0 ∷ 4 ∷ 0 ∷ 2 ∷ 1 ∷ 3 ∷ 2 ∷ 1 ∷ 0 ∷ [])
+        ∷ (2 ∷ 3 ∷ 0 ∷ 4 ∷ 0 ∷ 2 ∷ 1 ∷ 3 ∷ 1 ∷ 1 ∷ [])
+        ∷ (2 ∷ 3 ∷ 0 ∷ 4 ∷ 0 ∷ 2 ∷ 1 ∷ 3 ∷ 0 ∷ []) ∷ [] }
 {}
 
 /// What parties ask for where they stand: by labels of submissions and by numbers of acts.

@@ -3,7 +3,7 @@
 ghost use Rattle.std.specs.Prelude.{◌≡◌, ◌<◌, ◌++◌, true, false, length, IfOk, OnOk, flat_map};
 ghost use Rattle.dsa_key_bytes.specs.Numbers.{number_bytes};
 ghost use Rattle.dsa_parties.specs.Standing.{stand_of};
-ghost use Rattle.dsa_explore.specs.Keys.{client_bytes, place_bytes, world_bytes};
+ghost use Rattle.dsa_explore.specs.Keys.{client_bytes, mark_bytes, place_bytes, world_bytes};
 ghost use Rattle.dsa_explore.specs.Walked.{world_of};
 
 use crate::walked::Walked;
@@ -65,7 +65,28 @@ fn add_numbers(out: &mut Vec<u8>, numbers: &[u32]) -> Result<(), AllocError>
     Ok(())
 }
 
-// Adds where all parties stand.
+// Adds whether a watch has come.
+fn add_mark(out: &mut Vec<u8>, came: bool) -> Result<(), AllocError>
+    ensures { OnOk result (out.new.items ≡ out.old.items ++ mark_bytes came) }
+{
+    if came {
+        return add_number(out, 1);
+    }
+    add_number(out, 0)
+}
+
+// Adds of each watch whether it has come.
+fn add_marks(out: &mut Vec<u8>, came: &[bool]) -> Result<(), AllocError>
+    ensures { OnOk result
+        (out.new.items ≡ out.old.items ++ flat_map mark_bytes came.now) }
+{
+    for mark in came {
+        add_mark(out, *mark)?;
+    }
+    Ok(())
+}
+
+// Adds where all parties stand, and what they remember.
 fn add_places(out: &mut Vec<u8>, places: &Places) -> Result<(), AllocError>
     ensures { OnOk result
         (out.new.items ≡ out.old.items ++ place_bytes (stand_of places.now)) }
@@ -74,6 +95,8 @@ fn add_places(out: &mut Vec<u8>, places: &Places) -> Result<(), AllocError>
     add_clients(out, places.clients.as_slice())?;
     add_number(out, places.administrators.len() as u64)?;
     add_numbers(out, places.administrators.as_slice())?;
+    add_number(out, places.came.len() as u64)?;
+    add_marks(out, places.came.as_slice())?;
     Ok(())
 }
 

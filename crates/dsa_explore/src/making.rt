@@ -10,18 +10,19 @@ ghost use Rattle.dsa_explore.specs.Search.{IsFine, queue_taken_from};
 ghost use Rattle.dsa_explore.specs.Walked.{CannotBegin, IsFirst, space_of, world_of};
 ghost use Rattle.dsa_explore.specs.Ways.{IsWay};
 
-use crate::rows::labelled_reply;
+use crate::rows::{labelled_reply, labelled_rows};
 use crate::stored::Try;
 use crate::walked::{
-    Plan, Walked, event_by_label, has_names, new_machine, offer, set_label, step_from,
+    Plan, Walked, ends_since, event_by_label, has_names, new_walked, offer, set_label, step_from,
 };
 use dsa_book::{Reply, Step};
+use dsa_parties::Shown;
 use std::alloc::{AllocError, Global};
 
 /// A device on which the parties moved, and all steps that it made.
 #[derive(Drop)]
 pub struct Kept {
-    pub walked: Walked,
+    pub walked: Box<Walked>,
     pub steps: Vec<Step>,
 }
 
@@ -31,61 +32,59 @@ pub fn begin_kept(alloc: Global, plan: &Plan<'_>, capacity: u64) -> Result<Optio
     ensures kept { IfOk result
         (λ found. IfSome found
         (λ kept. IsEventKept plan.now.caps plan.now.script.now plan.now.setup.now capacity 0
-        kept.steps.items kept.walked)) }
+        kept.steps.items kept.walked.value)) }
     ensures fine { IfOk result
         (λ found. IfSome found
-        (λ kept. IsFine (space_of plan.now.caps plan.now.script.now) (world_of kept.walked))) }
+        (λ kept. IsFine (space_of plan.now.caps plan.now.script.now)
+        (world_of kept.walked.value))) }
     ensures begun { capacity ≡ length plan.now.setup.now
         → IfOk result
         (λ found. IfSome found
         (λ kept. IsFirst plan.now.caps plan.now.script.now plan.now.setup.now
-        (world_of kept.walked))) }
+        (world_of kept.walked.value))) }
     ensures none { capacity ≡ length plan.now.setup.now
         → IfOk result (λ found. IfNone found (CannotBegin plan.now.caps plan.now.setup.now)) }
     ensures again { length plan.now.setup.now ≤ capacity
         → IfOk result
         (λ found. IfSome found (λ kept. (first : World Standing)
         → IsFirst plan.now.caps plan.now.script.now plan.now.setup.now first
-        → world_of kept.walked ≡ first)) }
+        → world_of kept.walked.value ≡ first)) }
     ensures once { length plan.now.setup.now ≤ capacity
         → capacity ≤ 2 ^ 20
         → IfOk result
         (λ found. IfNone found ((first : World Standing)
         → IsFirst plan.now.caps plan.now.script.now plan.now.setup.now first
         → ⊥)) }
-    ensures labels { IfOk result (λ found. IfSome found (λ kept. HasLabels kept.walked)) }
+    ensures labels { IfOk result (λ found. IfSome found (λ kept. HasLabels kept.walked.value)) }
     ensures room { IfOk result
         (λ found. IfSome found
-        (λ kept. HasRoomLeft (length plan.now.setup.now) capacity kept.walked)) }
+        (λ kept. HasRoomLeft (length plan.now.setup.now) capacity kept.walked.value)) }
 {
-    let Some(mut machine) = new_machine(alloc, plan.caps, capacity)? else {
+    let Some(mut walked) = new_walked(alloc, plan, capacity)? else {
         return Ok(None);
     };
-    let mut steps = Vec::new(alloc);
-    machine.device.run(plan.setup, &mut steps)?;
-    if has_names(&machine) {
+    let mut steps = Vec::with_capacity(alloc, capacity as usize)?;
+    walked.machine.device.run(plan.setup, &mut steps)?;
+    if has_names(&walked.machine) {
         return Ok(None);
     }
-    let labels = Vec::new(alloc);
-    let places = plan.script.first_places(alloc)?;
-    let walked = Walked {
-        machine,
-        labels,
-        places,
-    };
     Ok(Some(Kept { walked, steps }))
 }
 
 /// The same device, without its steps.
-pub fn begin(alloc: Global, plan: &Plan<'_>, capacity: u64) -> Result<Option<Walked>, AllocError>
+pub fn begin(
+    alloc: Global,
+    plan: &Plan<'_>,
+    capacity: u64,
+) -> Result<Option<Box<Walked>>, AllocError>
     ensures fine { IfOk result
         (λ found. IfSome found
-        (λ walked. IsFine (space_of plan.now.caps plan.now.script.now) (world_of walked))) }
+        (λ walked. IsFine (space_of plan.now.caps plan.now.script.now) (world_of walked.value))) }
     ensures begun { capacity ≡ length plan.now.setup.now
         → IfOk result
         (λ found. IfSome found
         (λ walked. IsFirst plan.now.caps plan.now.script.now plan.now.setup.now
-        (world_of walked))) }
+        (world_of walked.value))) }
     ensures none { capacity ≡ length plan.now.setup.now
         → IfOk result (λ found. IfNone found (CannotBegin plan.now.caps plan.now.setup.now)) }
 {
@@ -133,11 +132,18 @@ pub fn make_step(
     let Some(event) = event_by_label(alloc, walked, offered.event)? else {
         return Ok(None);
     };
+    let before = walked.machine.device.fates().len();
     let Some(reply) = step_from(&mut walked.machine, event, tried.queue) else {
         return Ok(None);
     };
-    let told = labelled_reply(walked.labels.as_slice(), reply);
-    plan.script.make_move(&mut walked.places, tried.by, &told);
+    let labels = walked.labels.as_slice();
+    let ends = labelled_rows(alloc, labels, ends_since(walked, before))?;
+    let shown = Shown {
+        made: tried.by,
+        reply: labelled_reply(labels, reply),
+        ends: ends.as_slice(),
+    };
+    plan.script.make_move(&mut walked.places, &shown);
     Ok(Some(Step { event, reply }))
 }
 
@@ -184,10 +190,11 @@ pub fn walk_kept(
     ensures kept { IfOk result
         (λ found. IfSome found
         (λ kept. IsEventKept plan.now.caps plan.now.script.now plan.now.setup.now capacity
-        (length path.now) kept.steps.items kept.walked)) }
+        (length path.now) kept.steps.items kept.walked.value)) }
     ensures fine { IfOk result
         (λ found. IfSome found
-        (λ kept. IsFine (space_of plan.now.caps plan.now.script.now) (world_of kept.walked))) }
+        (λ kept. IsFine (space_of plan.now.caps plan.now.script.now)
+        (world_of kept.walked.value))) }
     ensures there { length plan.now.setup.now ≤ capacity
         → IfOk result
         (λ found. IfSome found
@@ -195,12 +202,12 @@ pub fn walk_kept(
         → IsFirst plan.now.caps plan.now.script.now plan.now.setup.now first
         → IsWay (space_of plan.now.caps plan.now.script.now) first path.now x
         → IsFine (space_of plan.now.caps plan.now.script.now) x
-        × HaveEqualKeys (world_of kept.walked) x)) }
-    ensures labels { IfOk result (λ found. IfSome found (λ kept. HasLabels kept.walked)) }
+        × HaveEqualKeys (world_of kept.walked.value) x)) }
+    ensures labels { IfOk result (λ found. IfSome found (λ kept. HasLabels kept.walked.value)) }
     ensures room { IfOk result
         (λ found. IfSome found
         (λ kept. HasRoomLeft (length plan.now.setup.now + length path.now) capacity
-        kept.walked)) }
+        kept.walked.value)) }
     ensures none { length plan.now.setup.now + length path.now ≤ capacity
         → capacity ≤ 2 ^ 20
         → IfOk result

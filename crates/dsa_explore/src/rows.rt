@@ -1,6 +1,6 @@
 //! The rows of a search: each finding once, with the fewest steps.
 
-ghost use Rattle.std.specs.Prelude.{◌≡◌, ◌∷◌, [], true, false, OnOk};
+ghost use Rattle.std.specs.Prelude.{◌≡◌, ◌∷◌, [], true, false, map, IfOk, OnOk};
 ghost use Rattle.dsa_base.specs.Lists.{In};
 ghost use Rattle.dsa_book.specs.declared.fate.FateRow.{FateRow};
 ghost use Rattle.dsa_keys.specs.Labels.{labelled_reply, labelled_row, labelled_ticket};
@@ -11,7 +11,7 @@ ghost use Rattle.dsa_explore.specs.Rows.{HasFinding, AddsRows, labels_of};
 use crate::found::{Ask, Finding, Found};
 use dsa_book::{DispatchAnswer, FateRow, FetchAnswer, Reply, StartAnswer, SubmitAnswer, Ticket};
 use dsa_store::Cell;
-use std::alloc::AllocError;
+use std::alloc::{AllocError, Global};
 
 /// What a step told: what a party asked for and was answered, the rows of what ended, and the
 /// labels of what is waited for.
@@ -61,6 +61,31 @@ pub fn labelled_reply(labels: &[u32], reply: Reply) -> Reply
         }
         _ => reply,
     }
+}
+
+// The row, with a label for the name and none for that of its batch.
+fn labelled_row(labels: &[u32], row: &FateRow) -> FateRow
+    ensures { result ≡ labelled_row (labels_of labels.now) row.now }
+{
+    FateRow {
+        name: label_of(labels, row.name),
+        parent: None,
+        fate: row.fate,
+    }
+}
+
+/// The rows, with labels for names.
+pub fn labelled_rows(
+    alloc: Global,
+    labels: &[u32],
+    rows: &[FateRow],
+) -> Result<Vec<FateRow>, AllocError>
+    ensures { IfOk result
+        (λ labelled. labelled.items ≡ map (labelled_row (labels_of labels.now)) rows.now) }
+{
+    rows.iter()
+        .map(|row| labelled_row(labels, row))
+        .collect(alloc)
 }
 
 // How an entry ended, with its label.

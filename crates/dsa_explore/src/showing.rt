@@ -22,8 +22,8 @@ use crate::rows::{Told, add_findings, has_finding};
 use crate::search::Searched;
 use crate::stored::{Node, Try};
 use crate::tries::tries_at;
-use crate::trying::{ends_since, path_to};
-use crate::walked::{Plan, Walked, ask_of};
+use crate::trying::path_to;
+use crate::walked::{Plan, Walked, ask_of, ends_since};
 use dsa_book::Step;
 use std::alloc::{AllocError, Global};
 
@@ -69,9 +69,7 @@ fn make_telling(
     let Some(step) = make_step(alloc, plan, walked, tried)? else {
         return Ok(None);
     };
-    let Some(ends) = ends_since(walked, before) else {
-        return Ok(None);
-    };
+    let ends = ends_since(walked, before);
     let labels = walked.labels.as_slice();
     let awaited = labels_waited_for(alloc, &walked.machine.device, labels, step.reply)?;
     let told = Told {

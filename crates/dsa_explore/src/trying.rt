@@ -18,8 +18,8 @@ use crate::keys::{Key, write_world};
 use crate::making::{make, walk_kept};
 use crate::rows::Told;
 use crate::stored::{Node, Search, Try, note};
-use crate::walked::{Plan, Walked, ask_of};
-use dsa_book::{DispatchAnswer, FateRow, Reply};
+use crate::walked::{Plan, Walked, ask_of, ends_since};
+use dsa_book::{DispatchAnswer, Reply};
 use std::alloc::{AllocError, Global};
 
 /// For how many steps a device has room beside those that lead to a world.
@@ -101,21 +101,25 @@ pub fn has_room(plan: &Plan<'_>, level: u32) -> bool
 }
 
 // A new device on which these tries were made.
-fn walk(alloc: Global, plan: &Plan<'_>, path: &[Try]) -> Result<Result<Walked, Halt>, AllocError>
+fn walk(
+    alloc: Global,
+    plan: &Plan<'_>,
+    path: &[Try],
+) -> Result<Result<Box<Walked>, Halt>, AllocError>
     ensures fine { IfOk result
         (λ found. IfOk found
-        (λ walked. IsFine (space_of plan.now.caps plan.now.script.now) (world_of walked))) }
+        (λ walked. IsFine (space_of plan.now.caps plan.now.script.now) (world_of walked.value))) }
     ensures there { IfOk result
         (λ found. IfOk found
         (λ walked. (first x : World Standing)
         → IsFirst plan.now.caps plan.now.script.now plan.now.setup.now first
         → IsWay (space_of plan.now.caps plan.now.script.now) first path.now x
-        → HaveEqualKeys (world_of walked) x)) }
-    ensures labels { IfOk result (λ found. IfOk found HasLabels) }
+        → HaveEqualKeys (world_of walked.value) x)) }
+    ensures labels { IfOk result (λ found. IfOk found (λ walked. HasLabels walked.value)) }
     ensures room { IfOk result
         (λ found. IfOk found
-        (HasRoomLeft (length plan.now.setup.now + length path.now)
-        (min (2 ^ 20) (length plan.now.setup.now + length path.now + 16)))) }
+        (λ walked. HasRoomLeft (length plan.now.setup.now + length path.now)
+        (min (2 ^ 20) (length plan.now.setup.now + length path.now + 16)) walked.value)) }
     ensures halted { IfOk result
         (λ found. IfErr found
         (λ halt. (first x : World Standing)
@@ -135,7 +139,7 @@ pub fn go_to(
     plan: &Plan<'_>,
     search: &Search,
     number: u32,
-) -> Result<Result<Walked, Halt>, AllocError>
+) -> Result<Result<Box<Walked>, Halt>, AllocError>
     ensures there { IfOk result
         (λ found. IfOk found (λ walked. (first : World Standing)
         → (table : List (Stored Standing))
@@ -143,8 +147,8 @@ pub fn go_to(
         → IsFirst plan.now.caps plan.now.script.now plan.now.setup.now first
         → IsSearch (space_of plan.now.caps plan.now.script.now) first search.now table
         → slice_get table number ≡ Some x
-        → IsThere (space_of plan.now.caps plan.now.script.now) x (world_of walked))) }
-    ensures labels { IfOk result (λ found. IfOk found HasLabels) }
+        → IsThere (space_of plan.now.caps plan.now.script.now) x (world_of walked.value))) }
+    ensures labels { IfOk result (λ found. IfOk found (λ walked. HasLabels walked.value)) }
     ensures room { IfOk result
         (λ found. IfOk found (λ walked. (first : World Standing)
         → (table : List (Stored Standing))
@@ -152,7 +156,7 @@ pub fn go_to(
         → IsSearch (space_of plan.now.caps plan.now.script.now) first search.now table
         → slice_get table number ≡ Some x
         → HasRoomLeft (length plan.now.setup.now + x.level)
-        (min (2 ^ 20) (length plan.now.setup.now + x.level + 16)) walked)) }
+        (min (2 ^ 20) (length plan.now.setup.now + x.level + 16)) walked.value)) }
     ensures halted { IfOk result
         (λ found. IfErr found (λ halt. (first : World Standing)
         → (table : List (Stored Standing))
@@ -167,19 +171,6 @@ pub fn go_to(
     };
     let found = walk(alloc, plan, path.as_slice())?;
     Ok(found)
-}
-
-/// What ended since so many had.
-pub fn ends_since(walked: &Walked, before: usize) -> Option<&[FateRow]>
-    ensures ends { IfSome result
-        (λ ends. ends.now ≡ drop before (world_of walked.now).state.work.fates) }
-    ensures none { IfNone result (length (world_of walked.now).state.work.fates < before) }
-{
-    let fates = walked.machine.device.fates();
-    if before > fates.len() {
-        return None;
-    }
-    Some(&fates[before..])
 }
 
 // The same try, which takes an entry from the queue that the reply tells, or from none.
@@ -239,9 +230,7 @@ fn attempt(
     if !write_world(walked, key)? {
         return Ok(Err(Halt::KeyBytes));
     }
-    let Some(ends) = ends_since(walked, before) else {
-        return Ok(Err(Halt::Lost));
-    };
+    let ends = ends_since(walked, before);
     let labels = walked.labels.as_slice();
     let awaited = labels_waited_for(alloc, &walked.machine.device, labels, reply)?;
     let told = Told {
@@ -264,10 +253,10 @@ pub fn come(
     alloc: Global,
     plan: &Plan<'_>,
     search: &Search,
-    walked: Walked,
+    walked: Box<Walked>,
     is_there: bool,
     number: u32,
-) -> Result<Result<Walked, Halt>, AllocError>
+) -> Result<Result<Box<Walked>, Halt>, AllocError>
     ensures there { IfOk result
         (λ found. IfOk found (λ here. (first : World Standing)
         → (table : List (Stored Standing))
@@ -276,12 +265,13 @@ pub fn come(
         → IsSearch (space_of plan.now.caps plan.now.script.now) first search.now table
         → slice_get table number ≡ Some x
         → (is_there ≡ true
-        → IsThere (space_of plan.now.caps plan.now.script.now) x (world_of walked))
-        → IsThere (space_of plan.now.caps plan.now.script.now) x (world_of here))) }
+        → IsThere (space_of plan.now.caps plan.now.script.now) x (world_of walked.value))
+        → IsThere (space_of plan.now.caps plan.now.script.now) x (world_of here.value))) }
     ensures labels { IfOk result
-        (λ found. IfOk found (λ here. (is_there ≡ true → HasLabels walked) → HasLabels here)) }
+        (λ found. IfOk found (λ here. (is_there ≡ true → HasLabels walked.value)
+        → HasLabels here.value)) }
     ensures room { IfOk result
-        (λ found. IfOk found (λ here. is_filled here.machine.device ≡ false)) }
+        (λ found. IfOk found (λ here. is_filled here.value.machine.device ≡ false)) }
     ensures halted { IfOk result
         (λ found. IfErr found (λ halt. (first : World Standing)
         → (table : List (Stored Standing))
@@ -311,7 +301,7 @@ pub fn try_all(
     alloc: Global,
     plan: &Plan<'_>,
     search: &mut Search,
-    at_first: Walked,
+    at_first: Box<Walked>,
     number: u32,
     tries: &[Try],
     key: &mut Key,
@@ -322,8 +312,8 @@ pub fn try_all(
         → (x : Stored Standing)
         → IsFirst plan.now.caps plan.now.script.now plan.now.setup.now first
         → IsAt (space_of plan.now.caps plan.now.script.now) first search.old table number x
-        → IsThere (space_of plan.now.caps plan.now.script.now) x (world_of at_first)
-        → HasLabels at_first
+        → IsThere (space_of plan.now.caps plan.now.script.now) x (world_of at_first.value)
+        → HasLabels at_first.value
         → AreTried (space_of plan.now.caps plan.now.script.now) first search.old table number x
         tries.now search.new)) }
     ensures halted { IfOk result
@@ -332,8 +322,8 @@ pub fn try_all(
         → (x : Stored Standing)
         → IsFirst plan.now.caps plan.now.script.now plan.now.setup.now first
         → IsAt (space_of plan.now.caps plan.now.script.now) first search.old table number x
-        → IsThere (space_of plan.now.caps plan.now.script.now) x (world_of at_first)
-        → HasLabels at_first
+        → IsThere (space_of plan.now.caps plan.now.script.now) x (world_of at_first.value)
+        → HasLabels at_first.value
         → key.old.line.capacity ≡ search.old.seen.width
         → IsHalted (space_of plan.now.caps plan.now.script.now) first (length plan.now.setup.now)
         search.new halt)) }

@@ -1,12 +1,12 @@
 //! A device on which the parties of a script moved.
 
 ghost use Rattle.std.specs.Prelude.{◌≡◌, ◌≢◌, ◌&&◌, ◌==◌, ℕ, ◌+◌, nat_lt, Some, None, IfOk, IfSome, IfNone};
-ghost use Rattle.std.specs.Prelude.{true, false, find, length, option_map};
+ghost use Rattle.std.specs.Prelude.{[], drop, true, false, find, length, option_map};
 ghost use Rattle.dsa_store.specs.Content.{HeldEntry};
 ghost use Rattle.dsa_book.specs.Machine.{next};
 ghost use Rattle.dsa_keys.specs.Labels.{with_label};
 ghost use Rattle.dsa_keys.specs.Steps.{event_by_label};
-ghost use Rattle.dsa_parties.specs.Standing.{stand_of};
+ghost use Rattle.dsa_parties.specs.Standing.{stand_of, standing_first};
 ghost use Rattle.dsa_device.specs.Running.{after_answer, running_at_first};
 ghost use Rattle.dsa_parties.specs.Offers.{bare_offer, has_engine, label_ticket, may_give};
 ghost use Rattle.dsa_parties.specs.declared.places.Move.TheVariants as move;
@@ -22,7 +22,7 @@ ghost use Rattle.dsa_explore.specs.Walked.{HasNoDevice, IsOffer};
 use crate::found::Ask;
 use crate::rows::label_of;
 use crate::running::running_on;
-use dsa_book::{BatchNote, Event, Reply, Ticket};
+use dsa_book::{BatchNote, Event, FateRow, Reply, Ticket};
 use dsa_desc::Outcome;
 use dsa_device::MakeFault;
 use dsa_linked::LinkedDevice;
@@ -55,20 +55,39 @@ pub struct Offered {
     pub label: u32,
 }
 
-/// A new device. `None` where there is none with these capabilities and this capacity.
-pub fn new_machine(
+/// A new device, with the parties where they begin. `None` where there is none with these
+/// capabilities and this capacity.
+pub fn new_walked(
     alloc: Global,
-    caps: Caps,
+    plan: &Plan<'_>,
     capacity: u64,
-) -> Result<Option<LinkedDevice>, AllocError>
+) -> Result<Option<Box<Walked>>, AllocError>
     ensures first { IfOk result
-        (λ found. IfSome found (λ machine. machine.device ≡ running_at_first caps capacity)) }
+        (λ found. IfSome found
+        (λ walked. walked.value.machine.device ≡ running_at_first plan.now.caps capacity)) }
+    ensures no_labels { IfOk result
+        (λ found. IfSome found (λ walked. walked.value.labels.items ≡ [])) }
+    ensures places { IfOk result
+        (λ found. IfSome found
+        (λ walked. stand_of walked.value.places ≡ standing_first plan.now.script.now)) }
     ensures some { IfOk result
-        (λ found. IfSome found (λ machine. ¬ (HasNoDevice caps capacity))) }
-    ensures none { IfOk result (λ found. IfNone found (HasNoDevice caps capacity)) }
+        (λ found. IfSome found (λ walked. ¬ (HasNoDevice plan.now.caps capacity))) }
+    ensures none { IfOk result (λ found. IfNone found (HasNoDevice plan.now.caps capacity)) }
 {
-    match LinkedDevice::new(alloc, caps, capacity) {
-        Ok(machine) => Ok(Some(machine)),
+    match LinkedDevice::new(alloc, plan.caps, capacity) {
+        Ok(machine) => {
+            let labels = Vec::new(alloc);
+            let places = plan.script.first_places(alloc)?;
+            let walked = Box::new(
+                alloc,
+                Walked {
+                    machine,
+                    labels,
+                    places,
+                },
+            )?;
+            Ok(Some(walked))
+        }
         Err(MakeFault::OutOfMemory) => Err(AllocError),
         Err(_) => Ok(None),
     }
@@ -293,6 +312,17 @@ pub fn step_from(machine: &mut LinkedDevice, event: Event, queue: Option<u16>) -
         return None;
     };
     Some(Reply::Dispatch(answer))
+}
+
+/// What ended since so many had.
+pub fn ends_since(walked: &Walked, before: usize) -> &[FateRow]
+    ensures { result.now ≡ drop before walked.now.machine.device.state.work.fates }
+{
+    let fates = walked.machine.device.fates();
+    if before > fates.len() {
+        return &[];
+    }
+    &fates[before..]
 }
 
 /// What the party asks for by this move.

@@ -81,6 +81,7 @@ fn two_clients(rt: &impl Abort, alloc: Global, states: u32) -> Explored {
         acts: &[],
         administrators: &[],
         engines: &[0],
+        watches: &[],
     };
     searched(rt, alloc, &world, states)
 }
@@ -106,6 +107,7 @@ fn drained(rt: &impl Abort, alloc: Global) -> Explored {
         ],
         administrators: &[part(0, 2)],
         engines: &[0, 1],
+        watches: &[],
     };
     searched(rt, alloc, &world, ENOUGH)
 }
@@ -137,6 +139,7 @@ fn fenced(rt: &impl Abort, alloc: Global) -> Explored {
         acts: &[once(Command::AbortPasid(1))],
         administrators: &[part(0, 1)],
         engines: &[0],
+        watches: &[],
     };
     searched(rt, alloc, &world, ENOUGH)
 }
@@ -168,6 +171,7 @@ fn groups(rt: &impl Abort, alloc: Global) -> Explored {
         acts: &[],
         administrators: &[],
         engines: &[0, 1, 2],
+        watches: &[],
     };
     searched(rt, alloc, &world, ENOUGH)
 }
@@ -193,6 +197,7 @@ fn closed(rt: &impl Abort, alloc: Global) -> Explored {
         acts: &[],
         administrators: &[],
         engines: &[0],
+        watches: &[],
     };
     searched(rt, alloc, &world, ENOUGH)
 }
@@ -220,6 +225,7 @@ fn written(rt: &impl Abort, alloc: Global) -> Explored {
         ],
         administrators: &[part(0, 3), part(3, 5)],
         engines: &[0],
+        watches: &[],
     };
     searched(rt, alloc, &world, ENOUGH)
 }
@@ -242,6 +248,7 @@ fn idle(setup: &[Event]) -> World<'_> {
         acts: &[],
         administrators: &[],
         engines: &[0, 1],
+        watches: &[],
     }
 }
 

@@ -3,7 +3,7 @@
 use dsa_book::{Event, Kind, Portal};
 use dsa_desc::Descriptor;
 use dsa_parties::{
-    Act, ClientScript, Origin, Outcomes, Part, RetryPolicy, Script, ScriptEntry, Submission,
+    Act, ClientScript, Origin, Outcomes, Part, RetryPolicy, Script, ScriptEntry, Submission, Watch,
 };
 use dsa_regs::{Caps, Command, GroupConfig, QueueConfig};
 use std::alloc::{AllocError, Global};
@@ -18,6 +18,7 @@ pub struct World<'a> {
     pub acts: &'a [Act],
     pub administrators: &'a [Part],
     pub engines: &'a [u16],
+    pub watches: &'a [Watch],
 }
 
 impl World<'_> {
@@ -28,7 +29,8 @@ impl World<'_> {
         let acts = Vec::from_slice(alloc, self.acts)?;
         let administrators = Vec::from_slice(alloc, self.administrators)?;
         let engines = Vec::from_slice(alloc, self.engines)?;
-        Ok(Script::new(entries, clients, acts, administrators, engines))
+        let watches = Vec::from_slice(alloc, self.watches)?;
+        Ok(Script::new(entries, clients, acts, administrators, engines, watches))
     }
 }
 

@@ -145,13 +145,13 @@ module _ (script : Script) (administrators : List ℕ) (a : ℕ) (part : Part) (
               (λ b. do_in_order acts (to_do acts (part_from (cond b (next + 1) next) part)) lines ≡ true) (sym e) h
 
   module _ (t : HasAct script part next line lines) where
-    pub next-is : (clients : List ClientPlace)
-        → next_act script (record { clients = clients; administrators = administrators }) a ≡ Some next
-    next-is clients =
+    pub next-is : (clients : List ClientPlace) (came : List Bool)
+        → next_act script (record { clients = clients; administrators = administrators; came = came }) a ≡ Some next
+    next-is clients came =
         ap (option_and_then (λ part. option_and_then (next_in part) (slice_get administrators a))) at_part
         ∙ ap (option_and_then (next_in part)) at_next
         ∙ ap (λ b. cond b (Some next) None) (lt-ltb next part.end t.below)
 
-    pub act-is : (clients : List ClientPlace)
-        → act_of script (record { clients = clients; administrators = administrators }) a ≡ Some t.act
-    act-is clients = ap (option_and_then (slice_get acts)) (next-is clients) ∙ t.at_act
+    pub act-is : (clients : List ClientPlace) (came : List Bool)
+        → act_of script (record { clients = clients; administrators = administrators; came = came }) a ≡ Some t.act
+    act-is clients came = ap (option_and_then (slice_get acts)) (next-is clients came) ∙ t.at_act

@@ -120,7 +120,7 @@ module _ (caps : Caps) (script : Script) (before : List LogLine) (w : World Stan
     the-turn-is : turn_of script w.places c ≡ Some the-turn
     the-turn-is = turn-is script w.places.clients c client here.place at_client here.at stands line (client_lines c rest)
         (subst (λ lines. submit_in_order entries (to_submit entries (part_from here.place.next client.part))
-        here.place.refusals lines ≡ true) (client-line c n line rest d) here.order) next-turn w.places.administrators
+        here.place.refusals lines ≡ true) (client-line c n line rest d) here.order) next-turn w.places.administrators w.places.came
 
     pub client-made : Made
     client-made = made-so caps script before w line rest s stand step (moves.Client c)
@@ -182,14 +182,14 @@ module _ (caps : Caps) (script : Script) (before : List LogLine) (w : World Stan
 
       the-next : next_act script w.places a ≡ Some at.next
       the-next = next-act-is script w.places.administrators a part at.next at_part at.at line (administrator_lines a rest)
-          in-order next-do w.places.clients
+          in-order next-do w.places.clients w.places.came
 
       pub administrator-made : Made
       administrator-made = made-so caps script before w line rest s stand step (moves.Administrator a)
           (bare_offer script (act_event next-do.act))
           (ap (option_map (λ act. bare_offer script (act_event act)))
           (act-is script w.places.administrators a part at.next at_part at.at line (administrator_lines a rest)
-          in-order next-do w.places.clients))
+          in-order next-do w.places.clients w.places.came))
           (act-by-label (labels_for w (bare_offer script (act_event next-do.act))) w.state next-do.act
           ∙ ap Some (act-event-is next-do.act ∙ sym event-is))
           (ap (λ o. does a (unwrap_or o 0)) the-next ∙ ap (does a) (sym number-is) ∙ sym d)

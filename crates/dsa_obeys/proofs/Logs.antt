@@ -28,6 +28,7 @@ use Rattle.dsa_book.specs.Work.{fetch_for}
 use Rattle.dsa_book.specs.Machine.{next, is_stored, is_run, replay, replay_from, stored_steps}
 use Rattle.dsa_book.specs.{Choice.{choice_of, chosen_cell}}
 use Rattle.dsa_book.proofs.{Gains.{named_by}}
+use Rattle.dsa_keys.specs.Labels.{labelled_reply}
 use Rattle.dsa_keys.specs.{Labels.{Labels, labelled_note}, Key.{key}}
 use Rattle.dsa_keys.specs.Parties.{Offer, World, Made, labels_for, offer_at, world_with, world_after_offer, world_after}
 use Rattle.dsa_keys.specs.{Parties.{world_after_all, IsGoodWorld}, Steps.{event_by_label}}
@@ -303,7 +304,7 @@ module _ (caps : Caps) (script : Script) (before : List LogLine) (w : World Stan
     act-line = line_left script w (moving.Administrator a) r (bare_offer script (act_event act)) (event_of_act act)
 
     next-is : next_act script w.places a ≡ Some t'.next
-    next-is = t'.next_is w.places.clients
+    next-is = t'.next_is w.places.clients w.places.came
 
     doer-is : does a (unwrap_or (next_act script w.places a) 0) ≡ does a t'.next
     doer-is = ap (λ o. does a (unwrap_or o 0)) next-is
@@ -608,7 +609,7 @@ module _ (caps : Caps) (script : Script) (last : World Standing) where
             step = record { event = e; reply = made.reply };
             doer = doer_of script w.places made.move o.label;
           })) event in
-          let places : v.places ≡ f.places =
+          let places : standing_after script w.places made.move (labelled_reply (labels_for w o) made.reply) ≡ f.places =
           standing-same script w.places made.move (labels_for w o) made.reply ∙ f.places_are in
           let rest = further (line ∷ before) v
           (worlds-answer caps (parties_of script) (is_good script) (lawful caps script) w v w made.move made.reply

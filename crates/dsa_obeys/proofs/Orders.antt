@@ -96,8 +96,8 @@ pub record IsAct (script : Script) (administrators : List ℕ) (a : ℕ) (act : 
   pub at_next : slice_get administrators a ≡ Some next
   pub below : next < part.end
   pub at_act : slice_get script.acts.items next ≡ Some act
-  pub next_is : (clients : List ClientPlace)
-      → next_act script (record { clients = clients; administrators = administrators }) a ≡ Some next
+  pub next_is : (clients : List ClientPlace) (came : List Bool)
+      → next_act script (record { clients = clients; administrators = administrators; came = came }) a ≡ Some next
 
 pub is-act : (script : Script) (stand : Standing) (a : ℕ) (act : Act) → act_of script stand a ≡ Some act
     → IsAct script stand.administrators a act
@@ -115,7 +115,7 @@ is-act script stand a act h = with-part (slice_get script.administrators.items a
       at_next = n;
       below = ltb-true next part.end l;
       at_act = h;
-      next_is = λ clients.
+      next_is = λ clients came.
           ap (option_and_then (λ part. option_and_then (next_in part) (slice_get stand.administrators a))) p
           ∙ ap (option_and_then (next_in part)) n ∙ ap (λ b. cond b (Some next) None) l;
     }

@@ -7,6 +7,7 @@ use Rattle.dsa_regs.specs.declared.Caps.{Caps}
 use Rattle.dsa_book.specs.declared.{answer.Reply.{Reply}, event.{Event.{Event}}}
 use Rattle.dsa_book.specs.{State.{State}, Machine.{next}}
 use Rattle.dsa_book.proofs.Gains.{named_by}
+use Rattle.dsa_keys.specs.Labels.{labelled_reply}
 use Rattle.dsa_keys.specs.Parties.{Offer, World, Made, labels_for, offer_at, world_with, world_after_offer, world_after}
 use Rattle.dsa_keys.specs.{Parties.{IsGoodWorld}, Steps.{event_by_label}}
 use Rattle.dsa_keys.proofs.Parties.{worlds-answer}
@@ -185,7 +186,8 @@ module _ (caps : Caps) (script : Script) (before : List LogLine) (w : World Stan
     world = (worlds-answer caps (parties_of script) (is_good script) (lawful caps script) w after w move reply
         stand.world stand.world (record { places = refl; keys = refl }) leads).left
 
-    places : after.places ≡ standing_after script w.places move reply
+    places : standing_after script w.places move (labelled_reply (labels_for w o) reply)
+        ≡ standing_after script w.places move reply
     places = standing-same script w.places move (labels_for w o) reply
 
     pub made-so : is_in_vain line.step.reply ≡ false → (stand' : Standing) → standing_after script w.places move reply ≡ stand'

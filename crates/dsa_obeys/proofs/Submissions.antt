@@ -222,9 +222,9 @@ module _ (script : Script) (places : List ClientPlace) (c : ℕ) (client : Clien
     abbrev pub turn : ClientTurn
     turn = record { client = client.number; place = place; desc = t.entry.desc; submission = t.submission }
 
-    pub turn-is : (administrators : List ℕ)
-        → turn_of script (record { clients = places; administrators = administrators }) c ≡ Some turn
-    turn-is administrators =
+    pub turn-is : (administrators : List ℕ) (came : List Bool)
+        → turn_of script (record { clients = places; administrators = administrators; came = came }) c ≡ Some turn
+    turn-is administrators came =
         ap (option_and_then (λ client. option_and_then (turn_from script client) (slice_get places c))) at_client
         ∙ ap (option_and_then (turn_from script client)) at_place
         ∙ ap (λ b. option_and_then (turn_with client.number place)

@@ -1,5 +1,5 @@
 -- The parties of a script are lawful.
-use Rattle.std.proofs.Common.{◌≡◌, ℕ, true, List, [], ◌∷◌, length, map, Option, Some, None, refl, sym, ap}
+use Rattle.std.proofs.Common.{◌≡◌, ℕ, Bool, true, List, [], ◌∷◌, length, map, drop, Option, Some, None, refl, sym, ap}
 use Rattle.std.proofs.Common.{◌∙◌, subst, arith, slice_get, not}
 use Rattle.std.specs.{Prelude.{option_map, option_and_then, slice_set}, Option.{option_map_or}, List.{list_all}}
 use Rattle.std.proofs.lemmas.{Bool.{and_parts, and_from, le-leb}, Option.{same_Some}}
@@ -9,7 +9,7 @@ use Rattle.dsa_book.specs.declared.{answer.Reply.{Reply}, event.Step.{Step}}
 use Rattle.dsa_book.specs.{State.{State}, Machine.{replay}}
 use Rattle.dsa_book.specs.declared.{note.BatchNote.{BatchNote}, event.Event.{Event, TheVariants.{Fetch}}}
 use Rattle.dsa_book.specs.Work.{note_at}
-use Rattle.dsa_keys.specs.Labels.{Labels, labelled_reply, with_next_label, IsFreshLabel}
+use Rattle.dsa_keys.specs.Labels.{Labels, labelled_reply, labelled_row, with_next_label, IsFreshLabel}
 use Rattle.dsa_keys.specs.Parties.{Offer, World, offer_at, labels_for, world_with, world_after_offer}
 use Rattle.dsa_keys.specs.{Parties.{AreLawful, IsGoodWorld}, Steps.{IsLabelled, next_by_label}}
 use Rattle.dsa_keys.proofs.Labelled.{histories-labelled}
@@ -21,6 +21,7 @@ use Rattle.dsa_parties.specs.declared.script.{ClientScript.{ClientScript}, Scrip
 use Rattle.dsa_parties.specs.declared.script.ScriptEntry.{ScriptEntry}
 use Rattle.dsa_parties.specs.Scripts.{are_in_order, are_parts, is_boundary, is_member_origin}
 use Rattle.dsa_parties.specs.Standing.{Standing, turn_of, place_after}
+use Rattle.dsa_parties.specs.Watches.{came_after}
 use Rattle.dsa_parties.specs.Offers.{parties_of, submission_event, bare_offer}
 use Rattle.dsa_parties.specs.Good.{stand_within, is_good, first_world}
 use Rattle.dsa_parties.proofs.Asked.{AskOf, asks_turn, asks_member, asks_bare, asks}
@@ -52,12 +53,13 @@ module _ (caps : Caps) (script : Script) (w : World Standing) (h : IsLabelled ca
       (λ (t : Option ClientTurn). Good script (record {
         places = record w.places {
           clients = option_map_or (λ turn. slice_set w.places.clients c (place_after told turn)) t w.places.clients;
+          came = came';
         };
         labels = labels';
         state = s';
       }))
       (sym is)
-      (client-good caps script w h g c turn (is-turn script w.places c turn is) reply s' step)
+      (client-good caps script w h g c turn (is-turn script w.places c turn is) reply s' step came')
     where
       labels' : Labels
       labels' = with_next_label w.labels w.state turn.place.next
@@ -65,29 +67,40 @@ module _ (caps : Caps) (script : Script) (w : World Standing) (h : IsLabelled ca
       told : Reply
       told = labelled_reply labels' reply
 
+      came' : List Bool
+      came' = came_after script w.places (Client c) told (map (labelled_row labels')
+          (drop (length w.state.work.fates) s'.work.fates))
+
   kept-bare : (move : Move) (event : Event) → IsBare event → IsNoClient move → (reply : Reply) (s' : State)
       → IsGoodAfter move reply s' (bare_offer script event)
   kept-bare (Client c) event bare calm reply s' step = absurd calm
-  kept-bare (Administrator a) event bare calm reply s' step = bare-good caps script w h g event reply s' _ bare step
-  kept-bare (Dispatch e) event bare calm reply s' step = bare-good caps script w h g event reply s' _ bare step
-  kept-bare (Fetch e) event bare calm reply s' step = bare-good caps script w h g event reply s' _ bare step
-  kept-bare (Start e) event bare calm reply s' step = bare-good caps script w h g event reply s' _ bare step
+  kept-bare (Administrator a) event bare calm reply s' step = bare-good caps script w h g event reply s' _ _ bare step
+  kept-bare (Dispatch e) event bare calm reply s' step = bare-good caps script w h g event reply s' _ _ bare step
+  kept-bare (Fetch e) event bare calm reply s' step = bare-good caps script w h g event reply s' _ _ bare step
+  kept-bare (Start e) event bare calm reply s' step = bare-good caps script w h g event reply s' _ _ bare step
   kept-bare (Finish e label outcome) event bare calm reply s' step =
-      bare-good caps script w h g event reply s' _ bare step
+      bare-good caps script w h g event reply s' _ _ bare step
 
   kept-member : (e : ℕ) (note : BatchNote) (next : NextMember) → note_at w.state.work e ≡ Some note
       → IsNextMember script.entries.items w.labels note next → (reply : Reply) (s' : State)
       → IsGoodAfter (Fetch e) reply s' (record { event = Fetch e next.desc; label = next.label })
   kept-member e note next at is reply s' step =
       subst (λ label. Good script (record {
-        places = w.places;
+        places = record w.places { came = came' };
         labels = with_next_label w.labels w.state label;
         state = s';
       }))
       (sym is.label)
       (fetch-good caps script w h g e note at is.left next.desc reply s'
       (subst (λ label. next_by_label (with_next_label w.labels w.state label) w.state (Fetch e next.desc) reply
-      ≡ Some s') is.label step))
+      ≡ Some s') is.label step) came')
+    where
+      labels' : Labels
+      labels' = with_next_label w.labels w.state next.label
+
+      came' : List Bool
+      came' = came_after script w.places (Fetch e) (labelled_reply labels' reply) (map (labelled_row labels')
+          (drop (length w.state.work.fates) s'.work.fates))
 
   kept : (move : Move) (o : Offer) (reply : Reply) (s' : State) → AskOf script w move o → IsGoodAfter move reply s' o
   kept move o reply s' (asks_turn a) =

@@ -12,3 +12,4 @@ pub mod Listed
 pub mod Rooms
 pub mod MoveNumbers
 pub mod Tested
+pub mod Watched

@@ -1,5 +1,5 @@
 -- Each kind of move keeps that a world is good.
-use Rattle.std.proofs.Common.{◌≡◌, ℕ, ◌+◌, ◌<◌, ◌≤◌, ◌==◌, true, false, List, length, Option, Some, None}
+use Rattle.std.proofs.Common.{◌≡◌, ℕ, ◌+◌, ◌<◌, ◌≤◌, ◌==◌, Bool, true, false, List, length, Option, Some, None}
 use Rattle.std.proofs.Common.{refl, sym, ap, ◌∙◌, subst, ⊎_elim, arith}
 use Rattle.std.specs.Prelude.{find, option_map, option_and_then, slice_set, nat_le}
 use Rattle.std.proofs.lemmas.Bool.{cases_lt, cases_eq, and_parts, and_from, ltb-true, leb-true, le-leb}
@@ -177,14 +177,14 @@ module _ (caps : Caps) (script : Script) (w : World Standing) (h : IsLabelled ca
       (fits script).parts g.within b in
       omega (arith, r.1, e)
 
-  pub bare-good : (event : Event) (reply : Reply) (s' : State) (administrators : List ℕ) → IsBare event
-      → next_by_label (named (length entries)) w.state event reply ≡ Some s'
+  pub bare-good : (event : Event) (reply : Reply) (s' : State) (administrators : List ℕ) (came : List Bool)
+      → IsBare event → next_by_label (named (length entries)) w.state event reply ≡ Some s'
       → Good script (record {
-        places = record { clients = w.places.clients; administrators = administrators };
+        places = record { clients = w.places.clients; administrators = administrators; came = came };
         labels = named (length entries);
         state = s';
       })
-  bare-good event reply s' administrators bare step =
+  bare-good event reply s' administrators came bare step =
       let m = makes (named (length entries)) w.state s' event reply step in
       let none = bare-names (named (length entries)) w.state s' event reply bare step in
       record {
@@ -277,12 +277,12 @@ module _ (caps : Caps) (script : Script) (w : World Standing) (h : IsLabelled ca
                 (note_at s'.work e);
           }
 
-      pub client-good : Good script (record {
-        places = record w.places { clients = places' };
+      pub client-good : (came : List Bool) → Good script (record {
+        places = record w.places { clients = places'; came = came };
         labels = named turn.place.next;
         state = s';
       })
-      client-good =
+      client-good came =
           let m = makes (named turn.place.next) w.state s' (submission_event turn) reply step in
           let later = behind-place (labelled_reply (named turn.place.next) reply) in
           record {
@@ -418,8 +418,9 @@ module _ (caps : Caps) (script : Script) (w : World Standing) (h : IsLabelled ca
         })
         left-notes
 
-    pub fetch-good : Good script (record { places = w.places; labels = named member; state = s' })
-    fetch-good =
+    pub fetch-good : (came : List Bool)
+        → Good script (record { places = record w.places { came = came }; labels = named member; state = s' })
+    fetch-good came =
         let m = makes (named member) w.state s' (Fetch e desc) reply step in
         record {
           within = g.within;

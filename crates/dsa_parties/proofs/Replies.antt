@@ -1,6 +1,10 @@
 -- Where parties stand after a reply does not depend on names.
-use Rattle.std.proofs.Common.{◌≡◌, ℕ, ◌+◌, true, cond, List, Option, Some, None, refl, sym, ap, ◌∙◌, slice_get}
-use Rattle.std.specs.{Prelude.{slice_set}, Option.{option_map_or}}
+use Rattle.dsa_parties.specs.declared.watches.Became.TheVariants as became
+use Rattle.dsa_parties.specs.declared.watches.Replied.TheVariants as replied
+use Rattle.dsa_parties.specs.declared.watches.Watch.TheVariants as watch
+use Rattle.std.proofs.Common.{◌≡◌, ◌&&◌, ◌||◌, ℕ, ◌+◌, true, cond, List, Option, Some, None, refl, sym, ap, ◌∙◌, slice_get}
+use Rattle.std.specs.{Prelude.{slice_set}, Option.{option_map_or}, List.{list_any}}
+use Rattle.dsa_book.specs.declared.fate.FateRow.{FateRow}
 use Rattle.dsa_book.specs.declared.answer.{Reply.{Reply}, SubmitAnswer.TheVariants.{Accepted}}
 use Rattle.dsa_book.specs.declared.answer.Reply.TheVariants.{Submit, Dispatch, Fetch, Start, Finish, Issue}
 use Rattle.dsa_book.specs.declared.answer.{DispatchAnswer.TheVariants.{Taken}}
@@ -12,6 +16,10 @@ use Rattle.dsa_parties.specs.declared.places.{ClientPlace.{ClientPlace}, ClientT
 use Rattle.dsa_parties.specs.declared.places.Move.TheVariants.{Client, Administrator, Dispatch, Fetch, Start, Finish}
 use Rattle.dsa_parties.specs.declared.script.{Act.{Act}, Script.{Script}}
 use Rattle.dsa_parties.specs.declared.script.Act.TheVariants.{Issue}
+use Rattle.dsa_parties.specs.declared.watches.{Became.{Became}, Replied.{Replied}}
+use Rattle.dsa_parties.specs.declared.watches.Watch.{Watch}
+use Rattle.dsa_parties.specs.Watches.{is_submitted_so, is_replied_so, is_answered_so, is_end_so, submits_label}
+use Rattle.dsa_parties.specs.Watches.{asks_for_act, is_to_do, is_watch_seen, came_with, came_after}
 use Rattle.dsa_parties.specs.Standing.{Standing, turn_of, next_act, place_after, is_through, act_after, standing_after}
 
 -- a fact of each reply by labels
@@ -103,3 +111,51 @@ standing-same script stand (Dispatch e) labels reply = refl
 standing-same script stand (Fetch e) labels reply = refl
 standing-same script stand (Start e) labels reply = refl
 standing-same script stand (Finish e label outcome) labels reply = refl
+
+-- ---- what is remembered
+
+accepted-alike : (so : Became) (t u : Ticket)
+    → is_submitted_so so (Accepted t) ≡ is_submitted_so so (Accepted u)
+accepted-alike became.Accepted t u = refl
+accepted-alike so t u = refl
+
+answered-same : (labels : Labels) (so : Became) (reply : Reply)
+    → is_answered_so so (labelled_reply labels reply) ≡ is_answered_so so reply
+answered-same labels so = by-reply labels (λ a b. is_answered_so so a ≡ is_answered_so so b) (λ r. refl)
+    (accepted-alike so) (λ t u q. refl) (λ t u. refl) (λ t u. refl)
+
+replied-same : (labels : Labels) (so : Replied) (reply : Reply)
+    → is_replied_so so (labelled_reply labels reply) ≡ is_replied_so so reply
+replied-same labels replied.Ended = by-reply labels (λ a b. is_replied_so replied.Ended a ≡ is_replied_so replied.Ended b)
+    (λ r. refl) (λ t u. refl) (λ t u q. refl) (λ t u. refl) (λ t u. refl)
+replied-same labels replied.Active = by-reply labels (λ a b. is_replied_so replied.Active a ≡ is_replied_so replied.Active b)
+    (λ r. refl) (λ t u. refl) (λ t u q. refl) (λ t u. refl) (λ t u. refl)
+replied-same labels replied.Refused = by-reply labels (λ a b. is_replied_so replied.Refused a ≡ is_replied_so replied.Refused b)
+    (λ r. refl) (λ t u. refl) (λ t u q. refl) (λ t u. refl) (λ t u. refl)
+replied-same labels replied.Finished = by-reply labels (λ a b. is_replied_so replied.Finished a ≡ is_replied_so replied.Finished b)
+    (λ r. refl) (λ t u. refl) (λ t u q. refl) (λ t u. refl) (λ t u. refl)
+replied-same labels replied.Nothing = by-reply labels (λ a b. is_replied_so replied.Nothing a ≡ is_replied_so replied.Nothing b)
+    (λ r. refl) (λ t u. refl) (λ t u q. refl) (λ t u. refl) (λ t u. refl)
+replied-same labels replied.Written = by-reply labels (λ a b. is_replied_so replied.Written a ≡ is_replied_so replied.Written b)
+    (λ r. refl) (λ t u. refl) (λ t u q. refl) (λ t u. refl) (λ t u. refl)
+replied-same labels replied.Cleared = by-reply labels (λ a b. is_replied_so replied.Cleared a ≡ is_replied_so replied.Cleared b)
+    (λ r. refl) (λ t u. refl) (λ t u q. refl) (λ t u. refl) (λ t u. refl)
+
+seen-same-by-label : (script : Script) (stand : Standing) (move : Move) (labels : Labels) (reply : Reply)
+    (ends : List FateRow) (w : Watch)
+    → is_watch_seen script stand move (labelled_reply labels reply) ends w ≡ is_watch_seen script stand move reply ends w
+seen-same-by-label script stand move labels reply ends (watch.Entry label so) =
+    ap (λ b. (submits_label script stand move label && b) || list_any (is_end_so label so) ends)
+    (answered-same labels so reply)
+seen-same-by-label script stand move labels reply ends (watch.Act act so) =
+    ap (λ b. asks_for_act script stand move act && b) (replied-same labels so reply)
+seen-same-by-label script stand move labels reply ends (watch.Before label act) =
+    ap (λ b. submits_label script stand move label && b
+    && is_to_do act script.administrators.items stand.administrators) (answered-same labels became.Accepted reply)
+
+pub came-same : (script : Script) (stand : Standing) (move : Move) (labels : Labels) (reply : Reply)
+    (ends : List FateRow)
+    → came_after script stand move (labelled_reply labels reply) ends ≡ came_after script stand move reply ends
+came-same script stand move labels reply ends =
+    ap (λ seen. came_with seen script.watches.items stand.came)
+    (λ i w. seen-same-by-label script stand move labels reply ends w i)

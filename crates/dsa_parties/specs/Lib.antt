@@ -1,5 +1,6 @@
 pub mod Scripts
 pub mod Standing
+pub mod Watches
 pub mod Offers
 pub mod Described
 pub mod Good

@@ -19,7 +19,7 @@ use Rattle.dsa_parties.specs.declared.script.Act.{Act}
 use Rattle.dsa_parties.specs.declared.script.Act.TheVariants.{Issue, Poll, WriteQueue, WriteGroup, ClearError}
 use Rattle.dsa_parties.specs.declared.script.Outcomes.{Outcomes, TheVariants.{SuccessAlone, PageFaultAlone, Both}}
 use Rattle.dsa_parties.specs.Scripts.{member_count, member_label}
-use Rattle.dsa_parties.specs.Standing.{Standing, turn_of, act_of, standing_after}
+use Rattle.dsa_parties.specs.{Standing.{Standing, turn_of, act_of}, Watches.{moved_by}}
 
 -- ---- events
 
@@ -93,7 +93,7 @@ offer_of script stand key (Finish e label outcome) =
 abbrev pub parties_of : Script → Parties Standing Move
 parties_of script = record {
   offer = offer_of script;
-  moved = λ stand move sight. standing_after script stand move sight.reply;
+  moved = λ stand move sight. moved_by script stand move sight.reply sight.ends;
 }
 
 -- ---- moves

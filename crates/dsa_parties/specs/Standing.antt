@@ -13,26 +13,33 @@ use Rattle.dsa_parties.specs.declared.script.{ClientScript.{ClientScript}, Part.
 use Rattle.dsa_parties.specs.declared.script.{Act.{Act, TheVariants.{Issue, Poll}}, ScriptEntry.{ScriptEntry}}
 use Rattle.dsa_parties.specs.declared.script.RetryPolicy.{RetryPolicy, TheVariants.{GiveUp, Again, AtMost}}
 use Rattle.dsa_parties.specs.declared.script.Until.{Until, TheVariants.{Once, Finished, Over}}
+use Rattle.dsa_parties.specs.declared.watches.Watch.{Watch}
 use Rattle.dsa_parties.specs.Scripts.{origin_submission}
 
--- where the parties stand
+-- where the parties stand, and of each watch of the script whether it has come
 pub record Standing : Type 0 where
   pub clients : List ClientPlace
   pub administrators : List ℕ
+  pub came : List Bool
 
 -- what these places say
 abbrev pub stand_of : Places → Standing
-stand_of places = record { clients = places.clients.items; administrators = places.administrators.items }
+stand_of places = record {
+  clients = places.clients.items;
+  administrators = places.administrators.items;
+  came = places.came.items;
+}
 
 -- a client at the begin of its part
 abbrev pub place_first : ClientScript → ClientPlace
 place_first client = record { next = client.part.first; refusals = 0 }
 
--- each party at the begin of its part
+-- each party at the begin of its part, and nothing has come
 abbrev pub standing_first : Script → Standing
 standing_first script = record {
   clients = map place_first script.clients.items;
   administrators = map (λ (part : Part). part.first) script.administrators.items;
+  came = map (λ (watch : Watch). false) script.watches.items;
 }
 
 -- ---- turns

@@ -2,12 +2,12 @@
 -- administrators and two engines.
 use Rattle.std.proofs.Common.{arith, refl}
 use denote.RawPtr.{null_ptr}
-use Rattle.std.specs.Prelude.{ℕ, ◌≤◌, Bool, true, false, List, [], ◌∷◌, length}
+use Rattle.std.specs.Prelude.{ℕ, ◌≤◌, Bool, true, false, List, [], ◌∷◌, length, None}
 use Rattle.std.specs.declared.{alloc.Global.{Global}, vec.Vec.{Vec}}
 use Rattle.dsa_desc.specs.declared.Descriptor.{Descriptor}
 use Rattle.dsa_regs.specs.declared.Command.TheVariants.{AbortAll, DrainAll}
 use Rattle.dsa_book.specs.declared.event.{Kind.TheVariants.{Enqcmd, Movdir64b}, Portal.TheVariants.{Limited, Unlimited}}
-use Rattle.dsa_book.specs.declared.note.BatchNote.{BatchNote}
+use Rattle.dsa_book.specs.declared.{fate.{Fate.{Fate}, FateRow.{FateRow}}, note.BatchNote.{BatchNote}}
 use Rattle.dsa_parties.specs.declared.places.{ClientPlace.{ClientPlace}, ClientTurn.{ClientTurn}}
 use Rattle.dsa_parties.specs.declared.script.{ClientScript.{ClientScript}, Part.{Part}, Script.{Script}}
 use Rattle.dsa_parties.specs.declared.script.{ScriptEntry.{ScriptEntry}, Submission.{Submission}}
@@ -16,6 +16,10 @@ use Rattle.dsa_parties.specs.declared.script.Origin.TheVariants.{Submitted, Fetc
 use Rattle.dsa_parties.specs.declared.script.Outcomes.TheVariants.{SuccessAlone, PageFaultAlone, Both}
 use Rattle.dsa_parties.specs.declared.script.{RetryPolicy.{RetryPolicy, TheVariants.{GiveUp, Again, AtMost}}}
 use Rattle.dsa_parties.specs.declared.script.Until.TheVariants.{Over}
+use Rattle.dsa_parties.specs.declared.watches.Became.TheVariants.{Aborted, Successful}
+use Rattle.dsa_parties.specs.declared.watches.Replied.TheVariants.{Finished}
+use Rattle.dsa_parties.specs.declared.watches.Watch.{Watch}
+use Rattle.dsa_parties.specs.declared.watches.Watch.TheVariants as watch
 use Rattle.dsa_parties.specs.Standing.{Standing}
 
 -- ---- entries
@@ -60,6 +64,12 @@ four_acts = Issue DrainAll true ∷ Poll Over ∷ ClearError ∷ Issue AbortAll 
 abbrev pub two_parts : List Part
 two_parts = part_between 0 3 ∷ part_between 3 4 ∷ []
 
+-- the batch is aborted, its first member ends with success, the poll finds the end of a command, and the Drain is
+-- accepted before AbortAll
+abbrev pub four_watches : List Watch
+four_watches =
+    watch.Entry 0 Aborted ∷ watch.Entry 1 Successful ∷ watch.Act 1 Finished ∷ watch.Before 4 3 ∷ []
+
 -- a list as the code has it
 abbrev pub vector_in : {A : Type 0} → Global → (items : List A) → length items ≤ 9 → Vec A Global
 vector_in memory items few = record {
@@ -80,6 +90,7 @@ worked_script memory = record {
   acts = vector_in memory four_acts (omega arith);
   administrators = vector_in memory two_parts (omega arith);
   engines = vector_in memory (0 ∷ 3 ∷ []) (omega arith);
+  watches = vector_in memory four_watches (omega arith);
   fits = refl;
 }
 
@@ -89,9 +100,21 @@ worked_script memory = record {
 abbrev pub place_at : ℕ → ℕ → ClientPlace
 place_at next refusals = record { next = next; refusals = refusals }
 
--- both clients and both administrators stand there
+-- both clients and both administrators stand there, and nothing has come
 abbrev pub all_at : ClientPlace → ClientPlace → ℕ → ℕ → Standing
-all_at first second act other = record { clients = first ∷ second ∷ []; administrators = act ∷ other ∷ [] }
+all_at first second act other = record {
+  clients = first ∷ second ∷ [];
+  administrators = act ∷ other ∷ [];
+  came = false ∷ false ∷ false ∷ false ∷ [];
+}
+
+-- the first client is through with its batch, the first administrator polls, and this has come
+abbrev pub remembering : List Bool → Standing
+remembering came = record (all_at (place_at 3 0) (place_at 4 0) 1 3) { came = came }
+
+-- an entry with this label ended so
+abbrev pub row_of_end : ℕ → Fate → FateRow
+row_of_end label fate = record { name = label; parent = None; fate = fate }
 
 -- the turn of client 9, which was turned away so often, by this policy
 abbrev pub turn_by : RetryPolicy → ℕ → ClientTurn

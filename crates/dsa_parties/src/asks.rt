@@ -4,9 +4,11 @@ ghost use Rattle.std.specs.Prelude.{◌≡◌, slice_get};
 ghost use Rattle.dsa_parties.specs.Offers.{engine_moves_of, has_engine, may_give, moves_of, next_member, spare_label};
 ghost use Rattle.dsa_parties.specs.Scripts.{submission_at};
 ghost use Rattle.dsa_parties.specs.Standing.{act_of, next_act, stand_of, standing_after, turn_from, turn_of};
+ghost use Rattle.dsa_parties.specs.Watches.{moved_by};
 
 use crate::places::{ClientPlace, ClientTurn, Move, NextMember, Places};
 use crate::script::{Act, ClientScript, Origin, Script, Submission};
+use crate::watches::Shown;
 use dsa_book::{BatchNote, Reply};
 use dsa_desc::Outcome;
 
@@ -124,8 +126,8 @@ impl Script {
         }
     }
 
-    /// Where all stand after a move with this reply.
-    pub fn make_move(&self, places: &mut Places, made: Move, reply: &Reply)
+    /// Whoever made the move has gone on after this answer, or stands where it did.
+    pub fn move_party(&self, places: &mut Places, made: Move, reply: &Reply)
         ensures { stand_of places.new
             ≡ standing_after self.now (stand_of places.old) made reply.now }
     {
@@ -136,6 +138,16 @@ impl Script {
             }
             _ => {}
         }
+    }
+
+    /// Where all stand after a step, and what they remember.
+    pub fn make_move(&self, places: &mut Places, shown: &Shown<'_>)
+        ensures { stand_of places.new
+            ≡ moved_by self.now (stand_of places.old) shown.now.made shown.now.reply
+            shown.now.ends.now }
+    {
+        self.remember(places, shown);
+        self.move_party(places, shown.made, &shown.reply);
     }
 
     /// The move of this number, among all but those that end an entry; none has a greater number.

@@ -1,12 +1,14 @@
 //! Where the parties of a script begin, and what its labels say.
 
-ghost use Rattle.std.specs.Prelude.{◌≡◌, IfOk, map};
+ghost use Rattle.std.specs.Prelude.{◌≡◌, IfOk, false, map};
 ghost use Rattle.dsa_parties.specs.declared.script.Part.{Part};
+ghost use Rattle.dsa_parties.specs.declared.watches.Watch.{Watch};
 ghost use Rattle.dsa_parties.specs.Described.{as_description, described_by, description_of};
 ghost use Rattle.dsa_parties.specs.Standing.{place_first, stand_of, standing_first};
 
 use crate::places::{ClientPlace, EntryDescription, Places};
 use crate::script::{ClientScript, Origin, Part, Script};
+use crate::watches::Watch;
 use dsa_book::Kind;
 use dsa_desc::Descriptor;
 use std::alloc::{AllocError, Global};
@@ -34,16 +36,25 @@ pub fn first_numbers(alloc: Global, parts: &[Part]) -> Result<Vec<u32>, AllocErr
     parts.iter().map(|part| part.first).collect(alloc)
 }
 
+/// None of these watches has come.
+pub fn first_marks(alloc: Global, watches: &[Watch]) -> Result<Vec<bool>, AllocError>
+    ensures { IfOk result (λ came. came.items ≡ map (λ (watch : Watch). false) watches.now) }
+{
+    watches.iter().map(|_| false).collect(alloc)
+}
+
 impl Script {
-    /// Each party at the begin of its part.
+    /// Each party at the begin of its part, and nothing has come.
     pub fn first_places(&self, alloc: Global) -> Result<Places, AllocError>
         ensures { IfOk result (λ places. stand_of places ≡ standing_first self.now) }
     {
         let clients = first_client_places(alloc, self.clients.as_slice())?;
         let administrators = first_numbers(alloc, self.administrators.as_slice())?;
+        let came = first_marks(alloc, self.watches.as_slice())?;
         Ok(Places {
             clients,
             administrators,
+            came,
         })
     }
 

@@ -4,6 +4,7 @@ ghost use Rattle.std.specs.Prelude.{◌≡◌, List, Some};
 ghost use Rattle.dsa_regs.specs.declared.Caps.{Caps};
 ghost use Rattle.dsa_book.specs.declared.answer.Reply.{Reply};
 ghost use Rattle.dsa_book.specs.declared.event.Step.{Step};
+ghost use Rattle.dsa_book.specs.declared.fate.FateRow.{FateRow};
 ghost use Rattle.dsa_book.specs.State.{State};
 ghost use Rattle.dsa_book.specs.Machine.{replay};
 ghost use Rattle.dsa_keys.specs.Key.{Key};
@@ -17,6 +18,7 @@ ghost use Rattle.dsa_parties.specs.Described.{described_by};
 ghost use Rattle.dsa_parties.specs.Good.{first_world, is_good};
 ghost use Rattle.dsa_parties.specs.Offers.{IsListed, offer_of, parties_of};
 ghost use Rattle.dsa_parties.specs.Standing.{Standing, standing_after};
+ghost use Rattle.dsa_parties.specs.Watches.{came_after};
 
 /// The parties of a script never ask for a label that a name has, and they begin in a good world,
 /// whatever history led to its state, if that gave no name.
@@ -51,11 +53,16 @@ pub fn labels_of_scripts_say_what_entries_are()
         → IsDescribed (described_by script) labels s }
 {}
 
-/// Where parties stand after a reply does not depend on the names in it.
+/// Where parties stand after a reply, and what they remember, does not depend on the names in it.
 pub fn parties_do_not_see_names()
-    ensures { (script : Script) (stand : Standing) (move : Move) (labels : Labels) (reply : Reply)
+    ensures places { (script : Script) (stand : Standing) (move : Move) (labels : Labels)
+        (reply : Reply)
         → standing_after script stand move (labelled_reply labels reply)
         ≡ standing_after script stand move reply }
+    ensures memory { (script : Script) (stand : Standing) (move : Move) (labels : Labels)
+        (reply : Reply) (ends : List FateRow)
+        → came_after script stand move (labelled_reply labels reply) ends
+        ≡ came_after script stand move reply ends }
 {}
 
 /// Each move that asks for something is in the list of moves, or ends an entry.

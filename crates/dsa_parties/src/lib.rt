@@ -12,9 +12,12 @@ pub mod places;
 pub mod rows;
 pub mod script;
 pub mod turns;
+pub mod watch_rows;
+pub mod watches;
 
 pub use making::is_script;
 pub use places::{ClientPlace, ClientTurn, EntryDescription, Move, NextMember, Places};
 pub use script::{
     Act, ClientScript, Origin, Outcomes, Part, RetryPolicy, Script, ScriptEntry, Submission, Until,
 };
+pub use watches::{Became, Replied, Shown, Watch};

@@ -7,6 +7,7 @@ ghost use Rattle.dsa_parties.specs.declared.script.{ClientScript.{ClientScript},
 ghost use Rattle.dsa_parties.specs.Scripts.{are_in_order, are_parts, counts_members, is_boundary, is_fetched_for, is_in_order, is_member_at, is_member_label, is_script, member_count, member_label};
 
 use crate::script::{Act, ClientScript, Origin, Part, Script, ScriptEntry};
+use crate::watches::Watch;
 use dsa_desc::Descriptor;
 
 // Whether it is fetched for the batch with this label.
@@ -187,6 +188,7 @@ impl Script {
         acts: Vec<Act>,
         administrators: Vec<Part>,
         engines: Vec<u16>,
+        watches: Vec<Watch>,
     ) -> Option<Script>
         ensures fits { is_some result
             ≡ is_script entries.items clients.items acts.items administrators.items }
@@ -195,7 +197,8 @@ impl Script {
             × (script.clients ≡ clients)
             × (script.acts ≡ acts)
             × (script.administrators ≡ administrators)
-            × (script.engines ≡ engines)) }
+            × (script.engines ≡ engines)
+            × (script.watches ≡ watches)) }
     {
         if !is_script(&entries, &clients, &acts, &administrators) {
             return None;
@@ -206,6 +209,15 @@ impl Script {
             acts,
             administrators,
             engines,
+            watches,
         })
+    }
+
+    /// The same script with these watches in place of its own.
+    pub fn watching(mut self, watches: Vec<Watch>) -> Script
+        ensures { result ≡ record self { watches = watches } }
+    {
+        self.watches = watches;
+        self
     }
 }

@@ -13,13 +13,15 @@ pub struct ClientPlace {
     pub refusals: u32,
 }
 
-/// Where all parties stand.
+/// Where all parties stand, and what they remember.
 #[derive(Debug, Drop)]
 pub struct Places {
     /// A place for each client.
     pub clients: Vec<ClientPlace>,
     /// For each administrator the number of its next act, or the end of its part.
     pub administrators: Vec<u32>,
+    /// For each watch of the script, whether it has come.
+    pub came: Vec<bool>,
 }
 
 /// What a client submits next.

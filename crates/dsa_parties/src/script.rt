@@ -3,6 +3,7 @@
 ghost use Rattle.std.specs.Prelude.{◌≡◌, true};
 ghost use Rattle.dsa_parties.specs.Scripts.{is_script};
 
+use crate::watches::Watch;
 use dsa_book::{Kind, Portal};
 use dsa_desc::Descriptor;
 use dsa_regs::{Command, GroupConfig, QueueConfig};
@@ -106,6 +107,8 @@ pub struct Script {
     pub administrators: Vec<Part>,
     /// The numbers of the engines that make steps.
     pub engines: Vec<u16>,
+    /// What the parties remember of the steps that were made.
+    pub watches: Vec<Watch>,
     /// The parts fit the tables.
     pub ghost fits: { is_script entries.items clients.items acts.items administrators.items
         ≡ true },

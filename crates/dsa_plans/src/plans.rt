@@ -17,7 +17,7 @@ use crate::acting::add_administrator;
 use crate::labels::{act_labels, entry_labels};
 use crate::said::{items_in, items_or_none};
 use crate::submitters::add_client;
-use dsa_parties::{Act, ClientScript, Part, Script, ScriptEntry};
+use dsa_parties::{Act, ClientScript, Part, Script, ScriptEntry, Watch};
 use dsa_regs::Caps;
 use dsa_scenario::ScenarioFault;
 use serde_json::Value;
@@ -178,13 +178,14 @@ fn add_administrators(
     Ok(())
 }
 
-// The script of these tables, unless they are too many.
+// The script of these tables with these watches, unless they are too many.
 fn few_script(
     entries: Vec<ScriptEntry>,
     clients: Vec<ClientScript>,
     acts: Vec<Act>,
     administrators: Vec<Part>,
     engines: Vec<u16>,
+    watches: Vec<Watch>,
 ) -> Result<Script, ScenarioFault>
     requires { are_few
         (tables_with engines.items (entries.items, clients.items)
@@ -201,6 +202,7 @@ fn few_script(
         (tables_with engines.items (entries.items, clients.items)
         (acts.items, administrators.items))
         ≡ Err e) }
+    ensures watched { IfOk result (λ script. script.watches ≡ watches) }
 {
     if clients.len() > 16 || administrators.len() > 8 || entries.len() > 256 {
         return Err(ScenarioFault::TooManyParties);
@@ -208,7 +210,7 @@ fn few_script(
     if acts.len() >= 1 << 32 {
         return Err(ScenarioFault::TooManyParties);
     }
-    let Some(script) = Script::new(entries, clients, acts, administrators, engines) else {
+    let Some(script) = Script::new(entries, clients, acts, administrators, engines, watches) else {
         unreachable!();
     };
     Ok(script)
@@ -220,6 +222,7 @@ fn script_of(alloc: Global, lists: Lists<'_>) -> Result<Script, ScenarioFault>
         (λ script. tables_said (lists_read lists.entry) ≡ Ok (tables_of script)) }
     ensures err { IfErr result (λ e. (e ≡ ScenarioFault.OutOfMemory)
         ⊎ (tables_said (lists_read lists.entry) ≡ Err e)) }
+    ensures watches { IfOk result (λ script. script.watches.items ≡ []) }
 {
     let mut entries = Vec::new(alloc);
     let mut clients = Vec::new(alloc);
@@ -228,7 +231,15 @@ fn script_of(alloc: Global, lists: Lists<'_>) -> Result<Script, ScenarioFault>
     let mut administrators = Vec::new(alloc);
     let first = lists.clients.len() as u64;
     add_administrators(&mut acts, &mut administrators, first, lists.administrators)?;
-    few_script(entries, clients, acts, administrators, lists.engines)
+    let watches = Vec::new(alloc);
+    few_script(
+        entries,
+        clients,
+        acts,
+        administrators,
+        lists.engines,
+        watches,
+    )
 }
 
 // The script of the object `parties`, for a device with so many engines.
@@ -237,6 +248,7 @@ fn script_in(alloc: Global, engines: u16, object: &Value) -> Result<Script, Scen
         (λ script. script_said engines (view object.now) ≡ Ok (tables_of script)) }
     ensures err { IfErr result (λ e. (e ≡ ScenarioFault.OutOfMemory)
         ⊎ (script_said engines (view object.now) ≡ Err e)) }
+    ensures watches { IfOk result (λ script. script.watches.items ≡ []) }
 {
     let Some(lists) = party_lists(alloc, engines, object)? else {
         return Err(ScenarioFault::BadParties);
@@ -267,8 +279,8 @@ fn script_in(alloc: Global, engines: u16, object: &Value) -> Result<Script, Scen
 /// first administrator. The members of a Batch with the label `x` have the labels `x/0`, `x/1` and
 /// so on. Two labels may be equal.
 ///
-/// Conditions are not read yet: a step with `when` or `if` makes its party bad. Other keys are
-/// ignored.
+/// The script has no watches. Conditions are not read yet: a step with `when` or `if` makes its
+/// party bad. Other keys are ignored.
 pub fn read_parties(
     alloc: Global,
     caps: &Caps,
@@ -282,6 +294,7 @@ pub fn read_parties(
     ensures acts { IfOk result
         (λ read. option_map act_labels (get (codes "parties") (view document.now))
         ≡ Some (map string_bytes read.acts.items)) }
+    ensures watches { IfOk result (λ read. read.script.watches.items ≡ []) }
     ensures err { IfErr result (λ e. (e ≡ ScenarioFault.OutOfMemory)
         ⊎ (parties_said caps.now.engines (view document.now) ≡ Err e)) }
 {

@@ -3,10 +3,10 @@ use Rattle.std.specs.Prelude.{ℕ, ◌&&◌, nat_lt, nat_le, Bool, List, [], ◌
 use Rattle.std.specs.List.{list_all}
 use Rattle.dsa_base.specs.Rows.{first_row}
 use Rattle.dsa_named.specs.Names.{is_own_character}
-use Rattle.dsa_questions.specs.declared.question.Became.{Became, TheVariants.{Accepted, Retry, Dropped, Completed}}
-use Rattle.dsa_questions.specs.declared.question.Became.TheVariants.{Successful, Failed, Aborted, Abandoned}
-use Rattle.dsa_questions.specs.declared.question.Replied.{Replied, TheVariants.{Ended, Active, Refused, Finished}}
-use Rattle.dsa_questions.specs.declared.question.Replied.TheVariants.{Nothing, Written, Cleared}
+use Rattle.dsa_parties.specs.declared.watches.Became.{Became, TheVariants.{Accepted, Retry, Dropped, Completed}}
+use Rattle.dsa_parties.specs.declared.watches.Became.TheVariants.{Successful, Failed, Aborted, Abandoned}
+use Rattle.dsa_parties.specs.declared.watches.Replied.{Replied, TheVariants.{Ended, Active, Refused, Finished}}
+use Rattle.dsa_parties.specs.declared.watches.Replied.TheVariants.{Nothing, Written, Cleared}
 
 -- what becomes of an entry, by this word
 abbrev pub became_called : List ℕ → Option Became

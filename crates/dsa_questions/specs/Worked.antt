@@ -13,7 +13,7 @@ use Rattle.dsa_plans.specs.Worked.{listing}
 use Rattle.dsa_explore.specs.declared.found.{Explored.{Explored}, Found.{Found}}
 use Rattle.dsa_tables.specs.Worked.{act_found, end_found, tables_on_literals, wait_found}
 use Rattle.dsa_questions.specs.declared.question.{Condition.{Condition, TheVariants.{Entry}}, Kind.{Kind}}
-use Rattle.dsa_questions.specs.declared.question.Became.TheVariants.{Aborted}
+use Rattle.dsa_parties.specs.declared.watches.Became.TheVariants.{Aborted}
 use Rattle.dsa_questions.specs.{Lines.{question_line}, Objects.{question_object}, Reading.{Asked}}
 
 -- what a row unfolds to compute its lines

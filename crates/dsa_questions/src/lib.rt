@@ -19,6 +19,6 @@ mod words;
 
 pub use lines::add_answered_table;
 pub use objects::add_answered_objects;
-pub use question::{Became, Condition, Kind, Question, Replied};
+pub use question::{Condition, Kind, Question};
 pub use reading::read_questions;
 pub use verdicts::{Outlook, first_broken, outlook_of};

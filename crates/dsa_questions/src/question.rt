@@ -1,43 +1,6 @@
 //! What a question asks for.
 
-/// What becomes of an entry.
-#[derive(Clone, Copy, Debug, PartialEq, Eq)]
-pub enum Became {
-    Accepted,
-    /// ENQCMD was told to come again, whatever the cause.
-    Retry,
-    /// MOVDIR64B wrote what no queue took, whatever the cause.
-    Dropped,
-    /// An engine ended it, with any status.
-    Completed,
-    /// An engine ended it, with status 01.
-    Successful,
-    /// An engine ended it, with another status.
-    Failed,
-    /// A command took it out, whichever.
-    Aborted,
-    /// A member behind a fence that a failed member stands before.
-    Abandoned,
-}
-
-/// What is answered to a step of an administrator.
-#[derive(Clone, Copy, Debug, PartialEq, Eq)]
-pub enum Replied {
-    /// A command is carried out, whatever it aborted.
-    Ended,
-    /// A command waits, or a poll found that one does.
-    Active,
-    /// A command or a write changed nothing, whatever the fault.
-    Refused,
-    /// A poll found that the command is over.
-    Finished,
-    /// A poll found no command, or a clear no error.
-    Nothing,
-    /// A write of a configuration was made.
-    Written,
-    /// A clear found an error.
-    Cleared,
-}
+use dsa_parties::{Became, Replied};
 
 /// A condition on what a search finds. Entries go by their labels, and steps of administrators by
 /// their numbers.

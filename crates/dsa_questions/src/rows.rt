@@ -5,16 +5,11 @@ ghost use Rattle.std.specs.Prelude.{◌≡◌, ◌++◌, [], ◌∷◌, codes, m
 ghost use Rattle.std.specs.Prelude.{Ok, Err, Some, None};
 ghost use Rattle.std.specs.declared.alloc.Global.{Global};
 ghost use Rattle.serde_json.specs.Data.{null, string};
-ghost use Rattle.dsa_regs.specs.declared.Fault.TheVariants.{Busy};
 ghost use Rattle.dsa_book.specs.declared.answer.Cause.TheVariants.{AtLimit};
-ghost use Rattle.dsa_book.specs.declared.answer.ClearAnswer.TheVariants as clear;
 ghost use Rattle.dsa_book.specs.declared.answer.IssueAnswer.TheVariants as issue;
-ghost use Rattle.dsa_book.specs.declared.answer.PollAnswer.TheVariants as poll;
 ghost use Rattle.dsa_book.specs.declared.answer.Reply.TheVariants as reply;
 ghost use Rattle.dsa_book.specs.declared.answer.SubmitAnswer.TheVariants as submit;
-ghost use Rattle.dsa_book.specs.declared.answer.WriteAnswer.TheVariants as write;
 ghost use Rattle.dsa_book.specs.declared.fate.Fate.TheVariants as fate;
-ghost use Rattle.dsa_parties.specs.Offers.{label_ticket};
 ghost use Rattle.dsa_scenario.specs.declared.faults.ScenarioFault.TheVariants.{BadQuestion};
 ghost use Rattle.dsa_scenario.specs.Worked.{object_of, whole};
 ghost use Rattle.dsa_explore.specs.declared.found.Ask.TheVariants as ask;
@@ -22,12 +17,12 @@ ghost use Rattle.dsa_explore.specs.declared.found.Finding.TheVariants as finding
 ghost use Rattle.dsa_plans.specs.Worked.{listing};
 ghost use Rattle.dsa_tables.specs.Table.{table_text};
 ghost use Rattle.dsa_tables.specs.Worked.{three_acts, two_labels};
-ghost use Rattle.dsa_questions.specs.declared.question.Became.TheVariants as became;
+ghost use Rattle.dsa_parties.specs.declared.watches.Became.TheVariants as became;
 ghost use Rattle.dsa_questions.specs.declared.question.Condition.TheVariants.{Entry, Act, Wait, Removal};
 ghost use Rattle.dsa_questions.specs.declared.question.Kind.TheVariants.{Never, Sometimes};
-ghost use Rattle.dsa_questions.specs.declared.question.Replied.TheVariants as replied;
+ghost use Rattle.dsa_parties.specs.declared.watches.Replied.TheVariants as replied;
 ghost use Rattle.dsa_questions.specs.declared.verdicts.Outlook.TheVariants.{InNoOrder, NotSoFar, With};
-ghost use Rattle.dsa_questions.specs.Asked.{is_about_entry, is_row_asked, is_ended_so, is_replied_so, is_submitted_so};
+ghost use Rattle.dsa_questions.specs.Asked.{is_about_entry, is_row_asked};
 ghost use Rattle.dsa_questions.specs.Lines.{text_with_answers, question_lines, steps_words, verdict_words};
 ghost use Rattle.dsa_questions.specs.Reading.{condition_said, conditions_said, number_called, question_said, questions_said};
 ghost use Rattle.dsa_questions.specs.Verdicts.{outlook_of, fewest_from, first_broken, is_broken_by};
@@ -65,60 +60,6 @@ pub fn of_labels()
     ensures { map (number_called (codes "x" ∷ codes "y" ∷ codes "y" ∷ codes "z" ∷ []))
         (codes "x" ∷ codes "y" ∷ codes "z" ∷ codes "w" ∷ codes "zz" ∷ [])
         ≡ Some 0 ∷ None ∷ Some 3 ∷ None ∷ None ∷ [] }
-{}
-
-/// What becomes of an entry.
-pub fn of_answers_to_submissions()
-    ensures accepted { map (is_submitted_so became.Accepted)
-        (submit.Accepted (label_ticket 0) ∷ submit.Retry AtLimit ∷ submit.Dropped AtLimit
-        ∷ submit.Full ∷ []) ≡ true ∷ false ∷ false ∷ false ∷ [] }
-    ensures retry { map (is_submitted_so became.Retry)
-        (submit.Accepted (label_ticket 0) ∷ submit.Retry AtLimit ∷ submit.Dropped AtLimit
-        ∷ submit.Full ∷ []) ≡ false ∷ true ∷ false ∷ false ∷ [] }
-    ensures dropped { map (is_submitted_so became.Dropped)
-        (submit.Accepted (label_ticket 0) ∷ submit.Retry AtLimit ∷ submit.Dropped AtLimit
-        ∷ submit.Full ∷ []) ≡ false ∷ false ∷ true ∷ false ∷ [] }
-    ensures completed { map (is_ended_so became.Completed)
-        (fate.Completed 1 ∷ fate.Completed 3 ∷ fate.Aborted 9 ∷ fate.Abandoned ∷ [])
-        ≡ true ∷ true ∷ false ∷ false ∷ [] }
-    ensures successful { map (is_ended_so became.Successful)
-        (fate.Completed 1 ∷ fate.Completed 3 ∷ fate.Aborted 1 ∷ fate.Abandoned ∷ [])
-        ≡ true ∷ false ∷ false ∷ false ∷ [] }
-    ensures failed { map (is_ended_so became.Failed)
-        (fate.Completed 1 ∷ fate.Completed 3 ∷ fate.Aborted 9 ∷ fate.Abandoned ∷ [])
-        ≡ false ∷ true ∷ false ∷ false ∷ [] }
-    ensures aborted { map (is_ended_so became.Aborted)
-        (fate.Completed 1 ∷ fate.Completed 3 ∷ fate.Aborted 9 ∷ fate.Abandoned ∷ [])
-        ≡ false ∷ false ∷ true ∷ false ∷ [] }
-    ensures abandoned { map (is_ended_so became.Abandoned)
-        (fate.Completed 1 ∷ fate.Completed 3 ∷ fate.Aborted 9 ∷ fate.Abandoned ∷ [])
-        ≡ false ∷ false ∷ false ∷ true ∷ [] }
-{}
-
-/// What steps of administrators are answered.
-pub fn of_answers_to_acts()
-    ensures ended { map (is_replied_so replied.Ended)
-        (reply.Issue (issue.Ended 3) ∷ reply.Issue issue.Active ∷ reply.Poll poll.Finished ∷ [])
-        ≡ true ∷ false ∷ false ∷ [] }
-    ensures active { map (is_replied_so replied.Active)
-        (reply.Issue issue.Active ∷ reply.Poll poll.Active ∷ reply.Issue (issue.Ended 0)
-        ∷ reply.Poll poll.Nothing ∷ []) ≡ true ∷ true ∷ false ∷ false ∷ [] }
-    ensures refused { map (is_replied_so replied.Refused)
-        (reply.Issue (issue.Refused Busy) ∷ reply.Write (write.Refused Busy)
-        ∷ reply.Issue issue.Active ∷ reply.Write write.Written ∷ [])
-        ≡ true ∷ true ∷ false ∷ false ∷ [] }
-    ensures polls { map (is_replied_so replied.Finished)
-        (reply.Poll poll.Finished ∷ reply.Poll poll.Active ∷ reply.Issue (issue.Ended 0) ∷ [])
-        ≡ true ∷ false ∷ false ∷ [] }
-    ensures nothing { map (is_replied_so replied.Nothing)
-        (reply.Poll poll.Nothing ∷ reply.Clear clear.Nothing ∷ reply.Poll poll.Finished ∷ [])
-        ≡ true ∷ true ∷ false ∷ [] }
-    ensures writes { map (is_replied_so replied.Written)
-        (reply.Write write.Written ∷ reply.Write (write.Refused Busy) ∷ [])
-        ≡ true ∷ false ∷ [] }
-    ensures clears { map (is_replied_so replied.Cleared)
-        (reply.Clear (clear.Cleared (record { queue = 0; cause = AtLimit; overflow = false }))
-        ∷ reply.Clear clear.Nothing ∷ []) ≡ true ∷ false ∷ [] }
 {}
 
 /// Which findings conditions are about. An entry and an act may have one number.

@@ -5,7 +5,7 @@ ghost use Rattle.std.specs.List.{list_all};
 ghost use Rattle.dsa_named.specs.Names.{is_own_character};
 ghost use Rattle.dsa_questions.specs.Words.{became_called, is_name, replied_called};
 
-use crate::question::{Became, Replied};
+use dsa_parties::{Became, Replied};
 
 /// What becomes of an entry, by this word.
 pub fn became_called(word: &str) -> Option<Became>

@@ -128,6 +128,7 @@ returns-clause-question c = λ form bounds memory.
           };
           events = refl;
           said = refl;
+          no_watches = refl;
           entries_called = refl;
           acts_called = refl;
         };

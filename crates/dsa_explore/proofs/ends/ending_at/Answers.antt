@@ -15,8 +15,12 @@ returns-clause-ending c = λ first table x begun is at.
     (sym c.node_of.ensures ∙ c.in-Some.is) in
     let stored = sym (ap (λ (l : List ℕ). slice_get l c.args.number) is.table_is.levelled)
     ∙ get-mapped (λ (y : Stored Standing). y.level) table c.args.number x at in (
-      ending-as c.args.plan.now.script.now _ (world_of c.in-Ok.walked) x.world there.keys
-          (record { left = c.in_ok-left.ensures; holds = c.holds_entries.ensures }),
+      ending-as c.args.plan.now.script.now _ (world_of c.in-Ok.walked.value) x.world there.keys
+          (record {
+            left = rw c.deref.ensures at c.in_ok-left.ensures;
+            holds = rw c.deref-2.ensures at
+                c.holds_entries.ensures;
+          }),
       same_Some c.in-Some.node.level x.level (sym here ∙ stored),
     )
 

@@ -18,8 +18,8 @@ returns-then-not-back-clause-decided c = λ first table x begun is at there has 
     let before = c.loop-tried.invariant.0 first table x begun is at there has room in
     let here = (rw c.in-Ok.is at c.in_ok-here.ensures.there) first table x begun is at before.1.0 in
     leads-on (space_of caps script) (space-lawful caps script) byte-keys first c.args.search.now table c.args.number x is at
-    (world_of c.in-Ok.here) (world_of c.leads_back.new.walked) _ here
-    (rw c.in-Some.is at c.in_ok-led.ensures.led)
+    (world_of c.in-Ok.here.value) (world_of c.leads_back.new.walked) _ here
+    (rw (c.in-Some.is, c.deref_mut.ensures.value) at c.in_ok-led.ensures.led)
     (c.in_ok-led.ensures.away (c.in-Some.is ∙ ap (λ b. Some b) c.if-not-back.true) (c.loop-tried.invariant.1 ∙ room))
 
 pub loop-tried-preserved-in_default-led : goal.loop-tried-preserved-in_default-led
@@ -30,12 +30,12 @@ loop-tried-preserved-in_default-led c = (
       let before = c.loop-tried.invariant.0 first table x begun is at there has room in
       let here = (rw c.in-Ok.is at c.in_ok-here.ensures.there) first table x begun is at before.1.0 in
       let labels = (rw c.in-Ok.is at c.in_ok-here.ensures.labels) before.1.1 in
-      let cannot = (rw c.in_default-led.is at c.in_ok-led.ensures.none) labels
+      let cannot = (rw (c.in_default-led.is, c.deref_mut.ensures.value) at c.in_ok-led.ensures.none) labels
       (rw c.in-Ok.is at c.in_ok-here.ensures.room) in (
         back-more (space_of caps script) x c.args.tries.now c.loop-tried.tried-index _ _ c.loop-tried-test.true refl
             before.0
             (inr (leads-nowhere (space_of caps script) (space-lawful caps script) byte-keys first c.args.search.now table
-            c.args.number x is at (world_of c.in-Ok.here) _ here cannot)),
+            c.args.number x is at (world_of c.in-Ok.here.value) _ here cannot)),
         (
           (λ (e : false ≡ true). absurd cc),
           (λ (e : false ≡ true). absurd cc),
@@ -52,20 +52,20 @@ loop-tried-preserved c = (
       let before = c.loop-tried.invariant.0 first table x begun is at there has room in
       let here = (rw c.in-Ok.is at c.in_ok-here.ensures.there) first table x begun is at before.1.0 in
       let labels = (rw c.in-Ok.is at c.in_ok-here.ensures.labels) before.1.1 in
-      let led = rw c.in-Some.is at c.in_ok-led.ensures.led in
+      let led = rw (c.in-Some.is, c.deref_mut.ensures.value) at c.in_ok-led.ensures.led in
       let same = c.in_ok-led.ensures.back (c.in-Some.is ∙ ap (λ b. Some b) c.if-not-back.false) in
       let back = leads-back (space_of caps script) (space-lawful caps script) byte-keys first c.args.search.now table
-      c.args.number x is at (world_of c.in-Ok.here) (world_of c.leads_back.new.walked) _ here led same in (
+      c.args.number x is at (world_of c.in-Ok.here.value) (world_of c.leads_back.new.walked) _ here led same in (
         back-more (space_of caps script) x c.args.tries.now c.loop-tried.tried-index _ _ c.loop-tried-test.true refl
             before.0 (inl back),
         (
           λ e. record {
             fine = fine-to (space_of caps script) (space-lawful caps script) byte-keys first c.args.search.now table
-                c.args.number x is at (world_of c.in-Ok.here) (world_of c.leads_back.new.walked) _ here led;
+                c.args.number x is at (world_of c.in-Ok.here.value) (world_of c.leads_back.new.walked) _ here led;
             keys = keys-back (space_of caps script) (space-lawful caps script) byte-keys first c.args.search.now table
-                c.args.number x is at (world_of c.in-Ok.here) (world_of c.leads_back.new.walked) _ here led same;
+                c.args.number x is at (world_of c.in-Ok.here.value) (world_of c.leads_back.new.walked) _ here led same;
           },
-          λ e. (rw c.in-Some.is at c.in_ok-led.ensures.labels) labels,
+          λ e. (rw (c.in-Some.is, c.deref_mut.ensures.value) at c.in_ok-led.ensures.labels) labels,
         ),
       ),
   c.in_ok-led.ensures.room ∙ c.loop-tried.invariant.1,

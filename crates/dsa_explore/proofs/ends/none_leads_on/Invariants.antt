@@ -12,10 +12,10 @@ invariant-loop-tried l = ((first : World Standing) → (table : List (Stored Sta
     → IsFirst l.plan.caps l.plan.script.now l.plan.setup.now first
     → IsSearch (space_of l.plan.caps l.plan.script.now) first l.search table
     → slice_get table l.number ≡ Some x
-    → IsThere (space_of l.plan.caps l.plan.script.now) x (world_of l.fn.at_first)
-    → HasLabels l.fn.at_first
+    → IsThere (space_of l.plan.caps l.plan.script.now) x (world_of l.fn.at_first.value)
+    → HasLabels l.fn.at_first.value
     → l.fn.key.line.capacity ≡ l.search.seen.width
     → AreDecided (space_of l.plan.caps l.plan.script.now) x (take l.tried-index l.tries) true
-    × ((l.is_there ≡ true → IsThere (space_of l.plan.caps l.plan.script.now) x (world_of l.walked))
-    × (l.is_there ≡ true → HasLabels l.walked)))
+    × ((l.is_there ≡ true → IsThere (space_of l.plan.caps l.plan.script.now) x (world_of l.walked.value))
+    × (l.is_there ≡ true → HasLabels l.walked.value)))
     × (l.key.line.capacity ≡ l.fn.key.line.capacity)

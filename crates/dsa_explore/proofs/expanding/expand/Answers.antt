@@ -47,11 +47,11 @@ returns-clause-expanded c = map-none c.in_ok-halted.halted c.in_ok-halted.ensure
     let lawful = space-lawful caps script in
     let moved = c.advance.ensures.moved c.if-not-advance.false in
     let there = (rw c.in-Ok.is at c.in_ok-walked.ensures.there) first table x begun is at in
-    let covers = c.in_ok-tries.ensures there.fine in
+    let covers = (rw c.deref.ensures at c.in_ok-tries.ensures) there.fine in
     let stand = stands space lawful byte-keys first c.args.search.now c.advance.new.search c.in-Some.node table
     c.args.number x is at (sym c.node_of.ensures ∙ c.in-Some.is) moved in
     tried-all space lawful byte-keys first c.args.search.now c.advance.new.search c.try_all.new.search table
-    c.args.number x (world_of c.in-Ok.walked) c.in_ok-tries.tries.items stand
+    c.args.number x (world_of c.in-Ok.walked.value) c.in_ok-tries.tries.items stand
     (ap (λ (s : Search). s.rows) moved.changed) there covers
     (subst (λ (l : List Try). AreTried space first c.advance.new.search table c.args.number x l c.try_all.new.search)
     c.as_slice.ensures.value

@@ -1,9 +1,10 @@
 use Rattle.dsa_explore.proofs.making.make_step.Goals as goal
-use Rattle.std.proofs.Common.{◌+◌, ◌∙◌, ℕ, List, ap, sym, ⊎_elim}
-use Rattle.std.specs.Prelude.{option_map}
-use Rattle.dsa_keys.specs.Labels.{Labels, with_label, labelled_reply}
+use Rattle.std.proofs.Common.{◌+◌, ◌∙◌, ℕ, List, ap, sym, ⊎_elim, drop, length}
+use Rattle.std.specs.Prelude.{map, option_map}
+use Rattle.dsa_book.specs.declared.fate.FateRow.{FateRow}
+use Rattle.dsa_keys.specs.Labels.{Labels, with_label, labelled_reply, labelled_row}
 use Rattle.dsa_keys.specs.{Parties.{Offer}, Steps.{event_by_label}}
-use Rattle.dsa_parties.specs.Standing.{stand_of, standing_after}
+use Rattle.dsa_parties.specs.{Standing.{stand_of}, Watches.{moved_by}}
 use Rattle.dsa_explore.specs.declared.walked.Offered.{Offered}
 use Rattle.dsa_explore.specs.{Rows.{labels_of}, Walked.{world_of}}
 use Rattle.dsa_explore.proofs.{Made.{made}, Ready.{labels-kept, not-followed, not-named, not-offered}}
@@ -19,9 +20,16 @@ returns-clause-made c =
     ∙ ap (λ n. with_label w.labels n c.in-Some.offered.label) c.next_name-name.ensures in
     let event = rw c.in-Some-2.is at c.in_ok-event.ensures.found in
     let step = c.in-Some-step_from.ensures.next in
-    let places = c.make_move.ensures
-    ∙ ap (standing_after script w.places c.args.tried.by) (c.labelled_reply-told.ensures
-    ∙ ap (λ (l : List ℕ). labelled_reply (labels_of l) c.in-Some-step_from.reply) c.as_slice.ensures.value) in
+    let named = c.as_slice-labels.ensures.value in
+    let told = c.labelled_reply.ensures
+    ∙ ap (λ (l : List ℕ). labelled_reply (labels_of l) c.in-Some-step_from.reply) named in
+    let rows = c.as_slice.ensures.value ∙ c.in_ok-ends.ensures
+    ∙ ap (λ (l : List ℕ). map (labelled_row (labels_of l)) c.ends_since.result.now) named
+    ∙ ap (map (labelled_row (labels_of c.set_label.new.labels.items)))
+    (c.ends_since.ensures
+    ∙ ap (λ (l : List FateRow). drop (length l) c.step_from.new.machine.device.state.work.fates) c.fates-before.ensures)
+    in
+    let places = c.make_move.ensures ∙ (λ i. moved_by script w.places c.args.tried.by (told i) (rows i)) in
     record {
       is = step-made script w (labels_of c.set_label.new.labels.items) c.args.tried.by c.in-Some-step_from.reply
           (record { event = c.in-Some.offered.event; label = c.in-Some.offered.label }) c.in-Some-2.event offered labels

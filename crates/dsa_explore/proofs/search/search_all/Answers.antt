@@ -1,7 +1,8 @@
 use Rattle.dsa_explore.proofs.search.search_all.Goals as goal
-use Rattle.std.proofs.Common.{◌≡◌, ◌∙◌, ℕ, refl, sym, subst, ap, Bool, true, false, is_none, is_some, List, map, arith, length, Option}
+use Rattle.std.proofs.Common.{◌≡◌, ◌∙◌, ◌<◌, ◌⊎◌, [], ◌∷◌, ℕ, refl, sym, subst, ap, Bool, true, false, is_none, is_some, List, map, arith, length, Option}
 use Rattle.std.specs.{Prelude.{IfSome}, declared.{alloc.Global.{Global}, vec.Vec.{Vec}}}
 use Rattle.dsa_explore.specs.declared.{found.{Ending.{Ending}, Found.{Found}}, stored.{Node.{Node}, Search.{Search}}}
+use Rattle.dsa_explore.specs.declared.walked.Walked.{Walked}
 use Rattle.dsa_explore.specs.{Trying.{HasReached}, Explored.{AreFindings}, Counted.{NeedsMoves}, Stored.{last_level, node_levels}}
 use Rattle.dsa_explore.specs.{Asks.{ask_of}, Ends.{AreEndings}, Keys.{world_bytes}, Walked.{space_of, world_of}}
 use Rattle.dsa_explore.proofs.Bounded.{is-none, when-none, as-halted, as-searched, halted-met, none-stored}
@@ -15,7 +16,7 @@ pub returns-then-not-branch-clause-explored : goal.returns-then-not-branch-claus
 returns-then-not-branch-clause-explored c =
     let caps = c.args.plan.now.caps in
     let script = c.args.plan.now.script.now in
-    let first = world_of c.in-Some.walked in
+    let first = world_of c.in-Some.walked.value in
     let unstored = c.in_ok-store_first.ensures.unstored c.if-not-branch.true in
     let rows = ap (λ r. r.items) (c.ended.ensures.rows ∙ ap (λ (s : Search). s.rows) unstored)
     ∙ c.in_ok-search.ensures.rows in
@@ -58,10 +59,11 @@ returns-clause-explored c =
     let space = space_of caps script in
     let lawful = space-lawful caps script in
     let set_up = length c.args.plan.now.setup.now in
-    let first = world_of c.in-Some.walked in
+    let first = world_of c.in-Some.walked.value in
     let fine = rw c.in-Some.is at c.in_ok-walked.ensures.fine in
     let begin = rw c.in-Some.is at (c.in_ok-walked.ensures.begun refl) in
-    let keys = c.in_ok-store_first.ensures.keys c.if-not-branch.false in
+    let keys = c.in_ok-store_first.ensures.keys c.if-not-branch.false
+    ∙ ap (λ (w : Walked). world_bytes (world_of w) ∷ []) c.deref.ensures in
     let rows = ap (λ r. r.items) c.in_ok-store_first.ensures.rows ∙ c.in_ok-search.ensures.rows in
     let front = c.in_ok-store_first.ensures.front ∙ c.in_ok-search.ensures.front in
     let room = c.in_ok-store_first.ensures.room ∙ c.in_ok-key.ensures.room ∙ sym c.in_ok-search.ensures.width
@@ -114,7 +116,7 @@ returns-clause-states c =
 
 pub returns-then-not-branch-clause-bounded : goal.returns-then-not-branch-clause-bounded
 returns-then-not-branch-clause-bounded c = λ incomplete.
-    let first = world_of c.in-Some.walked in
+    let first = world_of c.in-Some.walked.value in
     let unstored = c.in_ok-store_first.ensures.unstored c.if-not-branch.true in
     let none = c.ended.ensures.states ∙ ap (λ (s : Search). length s.seen.strings) unstored
     ∙ ap length c.in_ok-search.ensures.keys in
@@ -124,8 +126,10 @@ returns-then-not-branch-clause-bounded c = λ incomplete.
       met = none-stored (parties_of c.args.plan.now.script.now) world_bytes first c.args.bounds
           (length c.args.plan.now.setup.now) c.ended.result.explored _ _ c.in_ok-search.ensures.most
           c.in_ok-search.ensures.width none
+          (subst (λ (w : Walked). (c.in_ok-search.search.seen.most ≡ 0)
+          ⊎ (c.in_ok-search.search.seen.width < length (world_bytes (world_of w)))) c.deref.ensures
           (c.in_ok-store_first.ensures.met c.if-not-branch.true
-          (c.in_ok-key.ensures.room ∙ sym c.in_ok-search.ensures.width));
+          (c.in_ok-key.ensures.room ∙ sym c.in_ok-search.ensures.width)));
     }
 
 pub returns-clause-bounded : goal.returns-clause-bounded
@@ -135,10 +139,11 @@ returns-clause-bounded c = λ incomplete.
     let space = space_of caps script in
     let lawful = space-lawful caps script in
     let set_up = length c.args.plan.now.setup.now in
-    let first = world_of c.in-Some.walked in
+    let first = world_of c.in-Some.walked.value in
     let fine = rw c.in-Some.is at c.in_ok-walked.ensures.fine in
     let begin = rw c.in-Some.is at (c.in_ok-walked.ensures.begun refl) in
-    let keys = c.in_ok-store_first.ensures.keys c.if-not-branch.false in
+    let keys = c.in_ok-store_first.ensures.keys c.if-not-branch.false
+    ∙ ap (λ (w : Walked). world_bytes (world_of w) ∷ []) c.deref.ensures in
     let rows = ap (λ r. r.items) c.in_ok-store_first.ensures.rows ∙ c.in_ok-search.ensures.rows in
     let front = c.in_ok-store_first.ensures.front ∙ c.in_ok-search.ensures.front in
     let room = c.in_ok-store_first.ensures.room ∙ c.in_ok-key.ensures.room ∙ sym c.in_ok-search.ensures.width
@@ -171,10 +176,11 @@ returns-clause-depth c = λ whole.
     let space = space_of caps script in
     let lawful = space-lawful caps script in
     let set_up = length c.args.plan.now.setup.now in
-    let first = world_of c.in-Some.walked in
+    let first = world_of c.in-Some.walked.value in
     let fine = rw c.in-Some.is at c.in_ok-walked.ensures.fine in
     let begin = rw c.in-Some.is at (c.in_ok-walked.ensures.begun refl) in
-    let keys = c.in_ok-store_first.ensures.keys c.if-not-branch.false in
+    let keys = c.in_ok-store_first.ensures.keys c.if-not-branch.false
+    ∙ ap (λ (w : Walked). world_bytes (world_of w) ∷ []) c.deref.ensures in
     let rows = ap (λ r. r.items) c.in_ok-store_first.ensures.rows ∙ c.in_ok-search.ensures.rows in
     let front = c.in_ok-store_first.ensures.front ∙ c.in_ok-search.ensures.front in
     let room = c.in_ok-store_first.ensures.room ∙ c.in_ok-key.ensures.room ∙ sym c.in_ok-search.ensures.width
@@ -200,10 +206,11 @@ returns-clause-nothing c = λ none.
     let space = space_of caps script in
     let lawful = space-lawful caps script in
     let set_up = length c.args.plan.now.setup.now in
-    let first = world_of c.in-Some.walked in
+    let first = world_of c.in-Some.walked.value in
     let fine = rw c.in-Some.is at c.in_ok-walked.ensures.fine in
     let begin = rw c.in-Some.is at (c.in_ok-walked.ensures.begun refl) in
-    let keys = c.in_ok-store_first.ensures.keys c.if-not-branch.false in
+    let keys = c.in_ok-store_first.ensures.keys c.if-not-branch.false
+    ∙ ap (λ (w : Walked). world_bytes (world_of w) ∷ []) c.deref.ensures in
     let rows = ap (λ r. r.items) c.in_ok-store_first.ensures.rows ∙ c.in_ok-search.ensures.rows in
     let front = c.in_ok-store_first.ensures.front ∙ c.in_ok-search.ensures.front in
     let room = c.in_ok-store_first.ensures.room ∙ c.in_ok-key.ensures.room ∙ sym c.in_ok-search.ensures.width
@@ -218,7 +225,8 @@ returns-clause-nothing c = λ none.
 pub returns-then-not-branch-clause-ways : goal.returns-then-not-branch-clause-ways
 returns-then-not-branch-clause-ways c =
     let unstored = c.in_ok-store_first.ensures.unstored c.if-not-branch.true in
-    keeps-none c.args.plan.now.caps c.args.plan.now.script.now c.args.plan.now.setup.now (world_of c.in-Some.walked)
+    keeps-none c.args.plan.now.caps c.args.plan.now.script.now c.args.plan.now.setup.now
+    (world_of c.in-Some.walked.value)
     (rw c.in-Some.is at (c.in_ok-walked.ensures.begun refl)) c.store_first.new.search c.ended.result
     (ap (λ n. n.items) c.ended.ensures.nodes) c.ended.ensures.states (ap (λ r. r.items) c.ended.ensures.rows)
     (ap (λ (s : Search). s.seen.strings) unstored ∙ c.in_ok-search.ensures.keys)
@@ -231,10 +239,11 @@ returns-clause-ways c =
     let setup = c.args.plan.now.setup.now in
     let space = space_of caps script in
     let lawful = space-lawful caps script in
-    let first = world_of c.in-Some.walked in
+    let first = world_of c.in-Some.walked.value in
     let fine = rw c.in-Some.is at c.in_ok-walked.ensures.fine in
     let begin = rw c.in-Some.is at (c.in_ok-walked.ensures.begun refl) in
-    let keys = c.in_ok-store_first.ensures.keys c.if-not-branch.false in
+    let keys = c.in_ok-store_first.ensures.keys c.if-not-branch.false
+    ∙ ap (λ (w : Walked). world_bytes (world_of w) ∷ []) c.deref.ensures in
     let rows = ap (λ r. r.items) c.in_ok-store_first.ensures.rows ∙ c.in_ok-search.ensures.rows in
     let front = c.in_ok-store_first.ensures.front ∙ c.in_ok-search.ensures.front in
     let room = c.in_ok-store_first.ensures.room ∙ c.in_ok-key.ensures.room ∙ sym c.in_ok-search.ensures.width

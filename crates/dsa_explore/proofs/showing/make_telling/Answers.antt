@@ -1,12 +1,12 @@
 use Rattle.dsa_explore.proofs.showing.make_telling.Goals as goal
-use Rattle.std.proofs.Common.{◌∙◌, ℕ, List, ap, sym, drop, length, arith}
+use Rattle.std.proofs.Common.{◌∙◌, ℕ, List, ap, sym, drop, length}
 use Rattle.dsa_book.specs.declared.fate.FateRow.{FateRow}
 use Rattle.dsa_explore.specs.{Findings.{labels_waited_for}, Rows.{labels_of}, Walked.{space_of, world_of}}
-use Rattle.dsa_explore.proofs.{Kept.{telling-made}, Lawful.{space-lawful}, Noted.{fates-grow}, Scheduled.{told-as}}
+use Rattle.dsa_explore.proofs.{Kept.{telling-made}, Lawful.{space-lawful}, Scheduled.{told-as}}
 
 pub returns-clause-told : goal.returns-clause-told
 returns-clause-told c =
-    let ends = c.in-Some-ends_since.ensures.ends
+    let ends = c.ends_since-ends.ensures
     ∙ ap (λ (l : List FateRow). drop (length l) (world_of c.make_step.new.walked).state.work.fates)
     c.fates-before.ensures in
     let labels = c.as_slice-labels.ensures.value in
@@ -16,7 +16,7 @@ returns-clause-told c =
     record {
       made = rw c.in-Some.is at c.in_ok-step.ensures.made;
       tells = told-as c.args.finding.now c.ask_of-ask.result _ c.as_slice-labels.result.now
-          c.make_step.new.walked.labels.items c.in-Some.step.reply c.in-Some-ends_since.ends.now _
+          c.make_step.new.walked.labels.items c.in-Some.step.reply c.ends_since-ends.result.now _
           c.as_slice.result.now _ c.ask_of-ask.ensures labels ends awaited
           (c.in_ok-tells.ensures.told c.if-not-branch.false);
     }
@@ -25,25 +25,12 @@ pub returns-in_default-clause-none : goal.returns-in_default-clause-none
 returns-in_default-clause-none c = λ has room fine telling.
     (rw c.in_default.is at c.in_ok-step.ensures.none) has room telling.after telling.reply telling.leads telling.taken
 
-pub returns-in_default-ends_since-clause-none : goal.returns-in_default-ends_since-clause-none
-returns-in_default-ends_since-clause-none c = λ has room fine telling.
-    let caps = c.args.plan.now.caps in
-    let script = c.args.plan.now.script.now in
-    let made = rw c.in-Some.is at c.in_ok-step.ensures.made in
-    absurd (omega (
-      arith,
-      c.in_default-ends_since.ensures.none,
-      ap (λ (l : List FateRow). length l) c.fates-before.ensures,
-      fates-grow (space_of caps script) (space-lawful caps script) (world_of c.args.walked.now)
-          (world_of c.make_step.new.walked) c.args.tried.by c.in-Some.step.reply fine made.leads,
-    ))
-
 pub returns-then-not-branch-clause-none : goal.returns-then-not-branch-clause-none
 returns-then-not-branch-clause-none c = λ has room fine telling.
     let caps = c.args.plan.now.caps in
     let script = c.args.plan.now.script.now in
     let made = rw c.in-Some.is at c.in_ok-step.ensures.made in
-    let ends = c.in-Some-ends_since.ensures.ends
+    let ends = c.ends_since-ends.ensures
     ∙ ap (λ (l : List FateRow). drop (length l) (world_of c.make_step.new.walked).state.work.fates)
     c.fates-before.ensures in
     let labels = c.as_slice-labels.ensures.value in
@@ -52,7 +39,7 @@ returns-then-not-branch-clause-none c = λ has room fine telling.
     c.in-Some.step.reply) labels in
     c.in_ok-tells.ensures.other c.if-not-branch.true
     (told-as c.args.finding.now _ c.ask_of-ask.result c.make_step.new.walked.labels.items c.as_slice-labels.result.now
-    c.in-Some.step.reply _ c.in-Some-ends_since.ends.now _ c.as_slice.result.now (sym c.ask_of-ask.ensures) (sym labels)
+    c.in-Some.step.reply _ c.ends_since-ends.result.now _ c.as_slice.result.now (sym c.ask_of-ask.ensures) (sym labels)
     (sym ends) (sym awaited)
     (telling-made (space_of caps script) (space-lawful caps script) (world_of c.args.walked.now)
     (world_of c.make_step.new.walked) c.args.tried c.in-Some.step.reply c.args.finding.now fine made.leads

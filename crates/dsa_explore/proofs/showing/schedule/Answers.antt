@@ -8,9 +8,10 @@ pub returns-clause-shown : goal.returns-clause-shown
 returns-clause-shown c =
     let kept = rw c.in-Some.is at c.in_ok-kept.ensures.kept in
     rw c.in_ok-push.ensures.items (scheduled c.args.plan.now.caps c.args.plan.now.script.now c.args.plan.now.setup.now
-    c.room_to_show-capacity.result (length c.args.path.now) c.in-Some.kept.steps.items c.in-Some.kept.walked
-    c.make_telling.new.walked _ kept (c.state_is_replay.ensures.replay kept.no_past) c.args.finding.now c.in-Some-2.step
-    (rw c.in-Some-2.is at c.in_ok-step.ensures.told) c.room_to_show-capacity.ensures.all)
+    c.room_to_show-capacity.result (length c.args.path.now) c.in-Some.kept.steps.items c.in-Some.kept.walked.value
+    c.make_telling.new.walked _ kept ((rw c.deref.ensures at c.state_is_replay.ensures.replay) kept.no_past)
+    c.args.finding.now c.in-Some-2.step
+    (rw (c.in-Some-2.is, c.deref_mut.ensures.value) at c.in_ok-step.ensures.told) c.room_to_show-capacity.ensures.all)
 
 pub returns-in_default-clause-none : goal.returns-in_default-clause-none
 returns-in_default-clause-none c = λ fits first x begun way telling.
@@ -26,7 +27,8 @@ returns-in_default-2-clause-none c = λ fits first x begun way telling.
     let there = (rw c.in-Some.is at (c.in_ok-kept.ensures.there (omega (arith, all)))) first x begun way in
     let fine = rw c.in-Some.is at c.in_ok-kept.ensures.fine in
     let left = rw c.in-Some.is at c.in_ok-kept.ensures.room in
-    let w = world_of c.in-Some.kept.walked in
-    (rw c.in_default-2.is at c.in_ok-step.ensures.none) (rw c.in-Some.is at c.in_ok-kept.ensures.labels)
-    (not-filled c.in-Some.kept.walked.machine.device (omega (arith, left.few, left.room_is, all))) fine
+    let w = world_of c.in-Some.kept.walked.value in
+    (rw (c.in_default-2.is, c.deref_mut.ensures.value) at c.in_ok-step.ensures.none)
+    (rw c.in-Some.is at c.in_ok-kept.ensures.labels)
+    (not-filled c.in-Some.kept.walked.value.machine.device (omega (arith, left.few, left.room_is, all))) fine
     (telling-as space lawful x w c.args.last c.args.finding.now there.0 fine (other-keys w x there.1) telling)

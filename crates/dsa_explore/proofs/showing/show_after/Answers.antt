@@ -33,10 +33,10 @@ returns-clause-none c = λ fits first x tried begun way telling.
     let all = c.room_to_show.ensures.all (omega (arith, c.room_to_show.ensures.most, fits)) in
     let there = (rw c.in-Some.is at (c.in_ok-kept.ensures.there (omega (arith, all)))) first x begun way in
     let fine = rw c.in-Some.is at c.in_ok-kept.ensures.fine in
-    let w = world_of c.in-Some.kept.walked in
+    let w = world_of c.in-Some.kept.walked.value in
     let t = telling-as space lawful x w tried c.args.finding.now there.0 fine (other-keys w x there.1) telling in
     let listed = subst (λ (q : Option ℕ). In (record { by = tried.by; queue = q }) c.in_ok-tries.tries.items) t.taken
-    (c.in_ok-tries.ensures fine t.after tried.by t.reply t.leads) in
+    ((rw c.deref.ensures at c.in_ok-tries.ensures) fine t.after tried.by t.reply t.leads) in
     c.loop-last.invariant fits first x tried begun way
     (rw (take_all c.loop-last.last-index c.as_slice-last-items.result.now (omega (arith, c.loop-last-test.false)))
     (subst (λ (l : List Try). In tried l) (sym c.as_slice-last-items.ensures.value) listed)) telling

@@ -3,7 +3,7 @@ use Rattle.std.proofs.Common.{◌∙◌, ℕ, List, ap, sym, subst, drop, length
 use Rattle.dsa_book.specs.declared.fate.FateRow.{FateRow}
 use Rattle.dsa_explore.specs.{Findings.{labels_waited_for}, Rows.{labels_of}, Stored.{IsStoredAt, IsUnstored}}
 use Rattle.dsa_explore.specs.Walked.{space_of, world_of}
-use Rattle.dsa_explore.proofs.{Noted.{attempted, added-as, fates-grow, not-made, not-stored, too-long}}
+use Rattle.dsa_explore.proofs.{Noted.{attempted, added-as, not-made, not-stored, too-long}}
 use Rattle.dsa_explore.proofs.Lawful.{byte-keys, space-lawful}
 
 pub returns-in_default-clause-step : goal.returns-in_default-clause-step
@@ -24,32 +24,19 @@ returns-then-not-branch-clause-halted c = λ first table x is there room.
     (world_of c.args.walked.now) (world_of c.make.new.walked) c.args.tried.by c.in-Some.reply there step
     (length c.args.plan.now.setup.now) (omega (arith, room, long))
 
-pub returns-in_default-ends_since-clause-halted : goal.returns-in_default-ends_since-clause-halted
-returns-in_default-ends_since-clause-halted c = λ first table x is there room.
-    let caps = c.args.plan.now.caps in
-    let script = c.args.plan.now.script.now in
-    let step = rw c.in-Some.is at c.in_ok-reply.ensures.leads in
-    absurd (omega (
-      arith,
-      c.in_default-ends_since.ensures.none,
-      ap (λ (l : List FateRow). length l) c.fates-before.ensures,
-      fates-grow (space_of caps script) (space-lawful caps script) (world_of c.args.walked.now)
-          (world_of c.make.new.walked) c.args.tried.by c.in-Some.reply there.fine step,
-    ))
-
 pub returns-in-Ok-clause-step : goal.returns-in-Ok-clause-step
 returns-in-Ok-clause-step c = λ first table x is there has room.
     let caps = c.args.plan.now.caps in
     let script = c.args.plan.now.script.now in
     let step = rw c.in-Some.is at c.in_ok-reply.ensures.leads in
-    let ends = c.in-Some-ends_since.ensures.ends
+    let ends = c.ends_since-ends.ensures
     ∙ ap (λ (l : List FateRow). drop (length l) (world_of c.make.new.walked).state.work.fates) c.fates-before.ensures in
     let labels = c.as_slice-labels.ensures.value in
     let awaited = c.as_slice.ensures.value ∙ c.in_ok-awaited.ensures
     ∙ ap (λ (l : List ℕ). labels_waited_for (labels_of l) c.make.new.walked.machine.device.state
     c.in-Some.reply) labels in
     let added = added-as c.args.search.now.front c.ask_of-ask.result _ c.as_slice-labels.result.now
-    c.make.new.walked.labels.items c.in-Some.reply c.in-Some-ends_since.ends.now _ c.as_slice.result.now _
+    c.make.new.walked.labels.items c.in-Some.reply c.ends_since-ends.result.now _ c.as_slice.result.now _
     c.args.search.now.rows.items c.note.new.search.rows.items c.ask_of-ask.ensures labels ends awaited
     c.in_ok-at.ensures.rows in
     let bytes = c.as_slice-2.ensures.value ∙ c.in_ok-write_world.ensures.written c.if-not-branch.false in
@@ -66,14 +53,14 @@ returns-clause-halted c = λ first table x is there room.
     let caps = c.args.plan.now.caps in
     let script = c.args.plan.now.script.now in
     let step = rw c.in-Some.is at c.in_ok-reply.ensures.leads in
-    let ends = c.in-Some-ends_since.ensures.ends
+    let ends = c.ends_since-ends.ensures
     ∙ ap (λ (l : List FateRow). drop (length l) (world_of c.make.new.walked).state.work.fates) c.fates-before.ensures in
     let labels = c.as_slice-labels.ensures.value in
     let awaited = c.as_slice.ensures.value ∙ c.in_ok-awaited.ensures
     ∙ ap (λ (l : List ℕ). labels_waited_for (labels_of l) c.make.new.walked.machine.device.state
     c.in-Some.reply) labels in
     let added = added-as c.args.search.now.front c.ask_of-ask.result _ c.as_slice-labels.result.now
-    c.make.new.walked.labels.items c.in-Some.reply c.in-Some-ends_since.ends.now _ c.as_slice.result.now _
+    c.make.new.walked.labels.items c.in-Some.reply c.ends_since-ends.result.now _ c.as_slice.result.now _
     c.args.search.now.rows.items c.note.new.search.rows.items c.ask_of-ask.ensures labels ends awaited
     c.in_ok-at.ensures.rows in
     let bytes = c.as_slice-2.ensures.value ∙ c.in_ok-write_world.ensures.written c.if-not-branch.false in

@@ -33,7 +33,7 @@ returns-clause-room c = map-ok c.in_ok-found.found c.in_ok-found.ensures.room
     let way = (rw c.in-Some.is at c.in_ok-path.ensures.way) space first table x
     (subst (λ (n : List Node). TellWays space first n table) (sym c.as_slice.ensures.value)
     (tell-ways space first c.args.search.now table is)) at in
-    subst (λ (n : ℕ). HasRoomLeft (set_up + n) (min (2 ^ 20) (set_up + n + 16)) walked)
+    subst (λ (n : ℕ). HasRoomLeft (set_up + n) (min (2 ^ 20) (set_up + n + 16)) walked.value)
     (ap length c.as_slice-2.ensures.value ∙ way.1) left)
 
 pub returns-clause-halted : goal.returns-clause-halted

@@ -30,7 +30,8 @@ returns-in-Err-2-clause-halted c = λ first table x begun is there has room.
     let t = c.loop-tried.invariant.0 first table x begun is there has in
     let here = (rw c.in-Ok.is at c.in_ok-here.ensures.there) first t.0.more x begun t.0.further.is_at.is_search
     t.0.further.is_at.at t.1.0 in
-    (rw c.in-Err-2.is at c.in_ok-back.ensures.halted) first t.0.more x t.0.further.is_at here
+    (rw (c.in-Err-2.is, c.deref_mut.ensures.value) at c.in_ok-back.ensures.halted) first t.0.more x
+    t.0.further.is_at here
     (c.loop-tried.invariant.1.1.1.0 ∙ room ∙ sym c.loop-tried.invariant.1.1.0)
 
 pub loop-tried-preserved : goal.loop-tried-preserved
@@ -40,13 +41,14 @@ loop-tried-preserved c = (
       let here = (rw c.in-Ok.is at c.in_ok-here.ensures.there) first t.0.more x begun t.0.further.is_at.is_search
       t.0.further.is_at.at t.1.0 in
       let labels = (rw c.in-Ok.is at c.in_ok-here.ensures.labels) t.1.1 in
-      let a = (rw c.in-Ok-2.is at c.in_ok-back.ensures.step) first t.0.more x t.0.further.is_at here labels
+      let a = (rw (c.in-Ok-2.is, c.deref_mut.ensures.value) at c.in_ok-back.ensures.step) first t.0.more x
+      t.0.further.is_at here labels
       (rw c.in-Ok.is at c.in_ok-here.ensures.room) in (
         tried-more (space_of c.args.plan.now.caps c.args.plan.now.script.now) first c.args.search.now
             c.loop-tried.search c.attempt.new.search table c.args.number x c.args.tries.now
             c.loop-tried.tried-index _ _ _ _
             c.loop-tried-test.true refl t.0 a,
-        (a.there, λ e. (rw c.in-Ok-2.is at c.in_ok-back.ensures.labels) e labels),
+        (a.there, λ e. (rw (c.in-Ok-2.is, c.deref_mut.ensures.value) at c.in_ok-back.ensures.labels) e labels),
       ),
   (
     c.in_ok-back.ensures.most ∙ c.loop-tried.invariant.1.0,
