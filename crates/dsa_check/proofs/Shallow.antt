@@ -9,7 +9,7 @@ use Rattle.serde_json.specs.Data.{depth, items_depth, members_depth}
 use Rattle.serde_json.specs.{Find.{get, get_member, as_array}, View.{view, items_view}, declared.value.Value.{Value}}
 use Rattle.dsa_check.specs.Places.{IsShallow}
 
-abbrev AtMost : ℕ → Option Data → Type 0
+abbrev pub AtMost : ℕ → Option Data → Type 0
 AtMost n found = IfSome found (λ d. depth d ≤ n)
 
 at_most_by : (o : Ordering) (n : ℕ) (here rest : Option Data) → AtMost n here → AtMost n rest
@@ -24,7 +24,7 @@ member_at_most key n (member l d ms) h =
     at_most_by (slice_cmp nat_cmp key l) n (Some d) (get_member key ms) (omega arith)
     (member_at_most key n ms (omega arith))
 
-found_at_most : (key : List ℕ) (n : ℕ) (d : Data) → depth d ≤ n → AtMost n (get key d)
+pub found_at_most : (key : List ℕ) (n : ℕ) (d : Data) → depth d ≤ n → AtMost n (get key d)
 found_at_most key n null h = tt
 found_at_most key n (boolean b) h = tt
 found_at_most key n (number x) h = tt

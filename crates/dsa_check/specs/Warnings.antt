@@ -29,7 +29,7 @@ remark_names = codes "note" ∷ []
 
 -- what a document may have beside the keys that a run reads: the parties of a search, its questions, and a remark
 abbrev pub document_names : List (List ℕ)
-document_names = codes "parties" ∷ codes "never" ∷ codes "sometimes" ∷ remark_names
+document_names = codes "parties" ∷ codes "never" ∷ codes "sometimes" ∷ codes "always" ∷ remark_names
 
 -- what a step may have beside the keys of its kind: the kind, what another device was seen to answer, and a remark
 abbrev pub step_names : List (List ℕ)

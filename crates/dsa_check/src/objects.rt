@@ -57,7 +57,8 @@ fn step_number(fault: ScenarioFault) -> Option<u64>
     }
 }
 
-fn level_name(is_warning: bool) -> &'static str
+/// Whether a fault is told or a warning, in words.
+pub fn level_name(is_warning: bool) -> &'static str
     ensures { result.now ≡ level_name is_warning }
 {
     if is_warning { "warning" } else { "fault" }
@@ -77,7 +78,8 @@ fn add_number(writer: &mut Writer, key: &str, number: Option<u64>) -> Result<(),
     }
 }
 
-fn add_size(writer: &mut Writer, key: &str, size: Option<usize>) -> Result<(), AllocError>
+/// Adds a member with this number, where there is one.
+pub fn add_size(writer: &mut Writer, key: &str, size: Option<usize>) -> Result<(), AllocError>
     ensures tokens { OnOk result
         (writer.new.tokens ≡ writer.old.tokens ++ number_member key.now size) }
     ensures before { writer.new.before ≡ writer.old.before }
@@ -88,7 +90,8 @@ fn add_size(writer: &mut Writer, key: &str, size: Option<usize>) -> Result<(), A
     }
 }
 
-fn add_text(writer: &mut Writer, key: &str, text: &str) -> Result<(), AllocError>
+/// Adds a member with this text.
+pub fn add_text(writer: &mut Writer, key: &str, text: &str) -> Result<(), AllocError>
     ensures tokens { OnOk result
         (writer.new.tokens ≡ writer.old.tokens ++ text_member key.now (Some text.now)) }
     ensures before { writer.new.before ≡ writer.old.before }

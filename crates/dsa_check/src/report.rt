@@ -54,7 +54,8 @@ fn add_form(text: &mut String, form: Form) -> Added
     }
 }
 
-fn add_found(text: &mut String, found: Found) -> Added
+/// Adds what is found somewhere.
+pub fn add_found(text: &mut String, found: Found) -> Added
     ensures { Adds result text.old text.new (found_text found) }
 {
     match found {
@@ -82,7 +83,8 @@ fn add_bound(text: &mut String, found: Found, least: u64, most: u64) -> Added
     }
 }
 
-fn add_wanted(text: &mut String, found: Found, form: Form) -> Added
+/// Adds what is wanted, of a number that is too large or too small its bound.
+pub fn add_wanted(text: &mut String, found: Found, form: Form) -> Added
     ensures { Adds result text.old text.new (wanted_of found form) }
 {
     match form {
@@ -290,7 +292,8 @@ fn add_near_name(text: &mut String, key: &str, near: &str) -> Added
     write!(text, "\"{key}\" is no key here, but \"{near}\" is")
 }
 
-fn add_stray(text: &mut String, key: &Option<String>, near: Option<&'static str>) -> Added
+/// Adds that nothing reads a key.
+pub fn add_stray(text: &mut String, key: &Option<String>, near: Option<&'static str>) -> Added
     ensures { Adds result text.old text.new
         (stray_text (option_map string_bytes key.now) (option_map (λ name. name.now) near.entry)) }
 {
@@ -405,7 +408,8 @@ fn add_spot(text: &mut String, finding: &Finding, spot: Option<Spot>) -> Added
     }
 }
 
-fn add_mark(text: &mut String, is_warning: bool) -> Added
+/// Marks a warning.
+pub fn add_mark(text: &mut String, is_warning: bool) -> Added
     ensures { Adds result text.old text.new (warning_mark is_warning) }
 {
     if is_warning {

@@ -123,7 +123,8 @@ fn add_colored(text: &mut String, is_colored: bool, is_warning: bool) -> Added
     text.push_str(mark_end(is_colored))
 }
 
-fn add_lines(
+/// Adds the line of a place, and a mark below.
+pub fn add_lines(
     text: &mut String,
     is_colored: bool,
     is_warning: bool,

@@ -153,7 +153,8 @@ pub fn keys_that_nothing_reads()
         ≡ codes "caps" ∷ codes "capacity" ∷ codes "steps" ∷ [] }
     ensures remarks { remark_names ≡ codes "note" ∷ [] }
     ensures of_documents { document_names
-        ≡ codes "parties" ∷ codes "never" ∷ codes "sometimes" ∷ codes "note" ∷ [] }
+        ≡ codes "parties" ∷ codes "never" ∷ codes "sometimes" ∷ codes "always" ∷ codes "note"
+        ∷ [] }
     ensures of_steps { step_names
         ≡ codes "do" ∷ codes "answer" ∷ codes "zf" ∷ codes "note" ∷ [] }
     ensures friendly { map (λ kind. friendly_names kind (object_of []))

@@ -58,7 +58,7 @@ const REMARK_NAMES: [&str; 1] = ["note"];
 
 // The keys of a document beside those that a run reads: the parties of a search, its questions, and
 // a remark.
-const DOCUMENT_NAMES: [&str; 4] = ["parties", "never", "sometimes", "note"];
+const DOCUMENT_NAMES: [&str; 5] = ["parties", "never", "sometimes", "always", "note"];
 
 // The keys of a step beside those of its kind.
 const STEP_NAMES: [&str; 4] = ["do", "answer", "zf", "note"];
@@ -117,8 +117,8 @@ fn add_odd_name(kind: StepKind, step: &Value, reasons: &mut Vec<Reason>) -> Resu
     Ok(())
 }
 
-// The names of these fields, and these.
-fn names_of(
+/// The names of these fields, and these.
+pub fn names_of(
     alloc: Global,
     fields: &[Field],
     more: &[&'static str],
@@ -135,7 +135,8 @@ fn names_of(
     Ok(names)
 }
 
-fn is_named(names: &[&'static str], key: &str) -> bool
+/// Whether the key is one of these.
+pub fn is_named(names: &[&'static str], key: &str) -> bool
     ensures { result ≡ is_named (map (λ name. name.now) names.now) key.now }
 {
     names.iter().any(|name| *name == key)

@@ -5,13 +5,16 @@ use Rattle.std.proofs.Common.{◌≡◌, ◌<◌, ◌≤◌, ◌∙◌, ◌⊎�
 use Rattle.std.proofs.Common.{get_or, refl, Result, Ok}
 use Rattle.std.proofs.Common.{[], Option, unwrap_or, sym, ap, subst, arith, true, false}
 use Rattle.std.specs.Prelude.{is_some}
+use Rattle.std.proofs.lemmas.Option.{same_Some}
 use Rattle.std.specs.{Option.{option_map_or}, Str.Parse.{digits_value, without_leading_plus}}
 use Rattle.clap.specs.Walk.{Row, Text}
 use Rattle.dsa_cli.specs.declared.{options.{Asked.{Asked}, Workload.{Workload}}, reports.Report.{Report}}
-use Rattle.dsa_cli.specs.declared.options.WrongValue.{WrongValue, TheVariants.{Answer, Range, ShowAndJson}}
+use Rattle.dsa_cli.specs.declared.options.{Clash.{Clash}, WrongValue.{WrongValue, TheVariants.{Answer, Range}}}
+use Rattle.dsa_cli.specs.declared.options.WrongValue.TheVariants as wrong_value
+use Rattle.dsa_cli.specs.Shards.{shard_of_text, whole_shard}
 use Rattle.dsa_draw.specs.Ranges.{all_steps, range_of_text}
 use Rattle.dsa_cli.specs.CommandLine.{AreNumbersOf, AskWrongValue, AsksBy, AsksFor, IsAskedBy}
-use Rattle.dsa_cli.specs.CommandLine.{IsNumberOf, IsWrongIn, NameNothing}
+use Rattle.dsa_cli.specs.CommandLine.{IsNumberOf, IsWrongIn, NameNothing, clash_text, clash_words, unknown_shard_text}
 use Rattle.dsa_cli.specs.CommandLine.{NameReport, unknown_answer_text, unknown_range_text, wrong_value_text}
 use Rattle.dsa_cli.specs.CommandLine.{NameServe, NameThreads, SayHighThreshold, SaysNumber, command_in}
 use Rattle.dsa_cli.specs.{Reports.{text_if_too_long}, Threads.{IsAskedInRange}}
@@ -95,6 +98,9 @@ no_report_of found (Answer word) (report.Explore exploring) wrong by =
 no_report_of found (Answer word) (report.Show showing) wrong by =
     let both : codes "explain" ≡ codes "explore" = sym wrong.0 ∙ by.0 in
     omega (arith, ap (λ (t : Text). get_or t 4 0) both)
+no_report_of found (Answer word) (report.Sample sampling) wrong by =
+    let both : codes "explain" ≡ codes "explore" = sym wrong.0 ∙ by.0 in
+    omega (arith, ap (λ (t : Text). get_or t 4 0) both)
 no_report_of found (Range text) (report.Check check) wrong by = omega (arith, same_first (sym wrong.0 ∙ by.0))
 no_report_of found (Range text) (report.Explain selection run) wrong by = omega (arith, same_first (sym wrong.0 ∙ by.0))
 no_report_of found (Range text) (report.Trace form run) wrong by = omega (arith, same_first (sym wrong.0 ∙ by.0))
@@ -109,24 +115,50 @@ no_report_of found (Range text) (report.Conform conformance written) wrong by =
 no_report_of found (Range text) report.Expand wrong by = omega (arith, same_first (sym wrong.0 ∙ by))
 no_report_of found (Range text) (report.Explore exploring) wrong by = omega (arith, same_first (sym wrong.0 ∙ by.0))
 no_report_of found (Range text) (report.Show showing) wrong by = omega (arith, same_first (sym wrong.0 ∙ by.0))
-no_report_of found ShowAndJson (report.Check check) wrong by = omega (arith, same_first (sym wrong.0 ∙ by.0))
-no_report_of found ShowAndJson (report.Explain selection run) wrong by =
+no_report_of found (Range text) (report.Sample sampling) wrong by = omega (arith, same_first (sym wrong.0 ∙ by.0))
+no_report_of found (wrong_value.Clash clash) (report.Check check) wrong by = omega (arith, same_first (sym wrong.0 ∙ by.0))
+no_report_of found (wrong_value.Clash clash) (report.Explain selection run) wrong by =
     let both : codes "explore" ≡ codes "explain" = sym wrong.0 ∙ by.0 in
     omega (arith, ap (λ (t : Text). get_or t 4 0) both)
-no_report_of found ShowAndJson (report.Trace form run) wrong by = omega (arith, same_first (sym wrong.0 ∙ by.0))
-no_report_of found ShowAndJson (report.Chrome run) wrong by = omega (arith, same_first (sym wrong.0 ∙ by.0))
-no_report_of found ShowAndJson report.Count wrong by = omega (arith, same_first (sym wrong.0 ∙ by))
-no_report_of found ShowAndJson (report.Draw drawing run) wrong by = omega (arith, same_first (sym wrong.0 ∙ by.0))
-no_report_of found ShowAndJson (report.Conform conformance written) wrong by =
+no_report_of found (wrong_value.Clash clash) (report.Trace form run) wrong by = omega (arith, same_first (sym wrong.0 ∙ by.0))
+no_report_of found (wrong_value.Clash clash) (report.Chrome run) wrong by = omega (arith, same_first (sym wrong.0 ∙ by.0))
+no_report_of found (wrong_value.Clash clash) report.Count wrong by = omega (arith, same_first (sym wrong.0 ∙ by))
+no_report_of found (wrong_value.Clash clash) (report.Draw drawing run) wrong by = omega (arith, same_first (sym wrong.0 ∙ by.0))
+no_report_of found (wrong_value.Clash clash) (report.Conform conformance written) wrong by =
     omega (arith, same_first (sym wrong.0 ∙ by.0))
-no_report_of found ShowAndJson report.Expand wrong by =
+no_report_of found (wrong_value.Clash clash) report.Expand wrong by =
     let both : codes "explore" ≡ codes "expand" = sym wrong.0 ∙ by in
     cc
-no_report_of found ShowAndJson (report.Explore exploring) wrong by =
-    let none : false ≡ true = sym (ap is_some by.2) ∙ wrong.1 in
+no_report_of found (wrong_value.Clash clash) (report.Explore exploring) wrong by =
+    let both : Some clash ≡ None = sym wrong.1 ∙ by.5 in
     cc
-no_report_of found ShowAndJson (report.Show showing) wrong by =
-    let none : false ≡ true = sym by.3 ∙ wrong.2 in
+no_report_of found (wrong_value.Clash clash) (report.Show showing) wrong by =
+    let both : Some clash ≡ None = sym wrong.1 ∙ by.3 in
+    cc
+no_report_of found (wrong_value.Clash clash) (report.Sample sampling) wrong by =
+    let both : Some clash ≡ None = sym wrong.1 ∙ by.4 in
+    cc
+no_report_of found (wrong_value.Shard text) (report.Check check) wrong by = omega (arith, same_first (sym wrong.0 ∙ by.0))
+no_report_of found (wrong_value.Shard text) (report.Explain selection run) wrong by =
+    let both : codes "explore" ≡ codes "explain" = sym wrong.0 ∙ by.0 in
+    omega (arith, ap (λ (t : Text). get_or t 4 0) both)
+no_report_of found (wrong_value.Shard text) (report.Trace form run) wrong by = omega (arith, same_first (sym wrong.0 ∙ by.0))
+no_report_of found (wrong_value.Shard text) (report.Chrome run) wrong by = omega (arith, same_first (sym wrong.0 ∙ by.0))
+no_report_of found (wrong_value.Shard text) report.Count wrong by = omega (arith, same_first (sym wrong.0 ∙ by))
+no_report_of found (wrong_value.Shard text) (report.Draw drawing run) wrong by = omega (arith, same_first (sym wrong.0 ∙ by.0))
+no_report_of found (wrong_value.Shard text) (report.Conform conformance written) wrong by =
+    omega (arith, same_first (sym wrong.0 ∙ by.0))
+no_report_of found (wrong_value.Shard text) report.Expand wrong by =
+    let both : codes "explore" ≡ codes "expand" = sym wrong.0 ∙ by in
+    cc
+no_report_of found (wrong_value.Shard text) (report.Explore exploring) wrong by =
+    let both : true ≡ false = sym wrong.3 ∙ by.4 in
+    cc
+no_report_of found (wrong_value.Shard text) (report.Show showing) wrong by =
+    let both : None ≡ Some showing.row.now = sym wrong.4 ∙ by.2 in
+    cc
+no_report_of found (wrong_value.Shard text) (report.Sample sampling) wrong by =
+    let none = sym (ap (λ o. option_map_or shard_of_text o (Some whole_shard)) wrong.1 ∙ wrong.2) ∙ by.1.shard in
     cc
 
 -- what the words name, where a value is wrong
@@ -134,7 +166,8 @@ no_other_name : (found : Text × List Row) (value : WrongValue) (name : Text) �
     → IsWrongIn found value → name ≡ found.0 → ⊥
 no_other_name found (Answer word) name high wrong same = omega (arith, same_first (same ∙ wrong.0), high)
 no_other_name found (Range text) name high wrong same = omega (arith, same_first (same ∙ wrong.0), high)
-no_other_name found ShowAndJson name high wrong same = omega (arith, same_first (same ∙ wrong.0), high)
+no_other_name found (wrong_value.Clash clash) name high wrong same = omega (arith, same_first (same ∙ wrong.0), high)
+no_other_name found (wrong_value.Shard text) name high wrong same = omega (arith, same_first (same ∙ wrong.0), high)
 
 -- a command has one wrong value at most
 same_text : (found : Text × List Row) (one other : WrongValue) → IsWrongIn found one → IsWrongIn found other
@@ -143,13 +176,31 @@ same_text found (Answer one) (Answer other) is wrong =
     ap (λ o. unknown_answer_text (unwrap_or o [])) (sym is.1 ∙ wrong.1)
 same_text found (Range one) (Range other) is wrong =
     ap (λ o. unknown_range_text (unwrap_or o [])) (sym is.1 ∙ wrong.1)
-same_text found ShowAndJson ShowAndJson is wrong = refl
-same_text found ShowAndJson (Range other) is wrong = absurd (omega (arith, same_first (sym is.0 ∙ wrong.0)))
-same_text found (Range one) ShowAndJson is wrong = absurd (omega (arith, same_first (sym is.0 ∙ wrong.0)))
-same_text found ShowAndJson (Answer other) is wrong =
+same_text found (wrong_value.Clash one) (wrong_value.Clash other) is wrong =
+    let both : Some one ≡ Some other = sym is.1 ∙ wrong.1 in
+    ap (λ c. clash_text (clash_words c)) (same_Some one other both)
+same_text found (wrong_value.Shard one) (wrong_value.Shard other) is wrong =
+    ap (λ o. unknown_shard_text (unwrap_or o [])) (sym is.1 ∙ wrong.1)
+same_text found (wrong_value.Clash one) (wrong_value.Shard other) is wrong =
+    let both : Some one ≡ None = sym is.1 ∙ wrong.5 in
+    absurd cc
+same_text found (wrong_value.Shard one) (wrong_value.Clash other) is wrong =
+    let both : None ≡ Some other = sym is.5 ∙ wrong.1 in
+    absurd cc
+same_text found (wrong_value.Clash one) (Range other) is wrong = absurd (omega (arith, same_first (sym is.0 ∙ wrong.0)))
+same_text found (Range one) (wrong_value.Clash other) is wrong = absurd (omega (arith, same_first (sym is.0 ∙ wrong.0)))
+same_text found (wrong_value.Clash one) (Answer other) is wrong =
     let both : codes "explore" ≡ codes "explain" = sym is.0 ∙ wrong.0 in
     absurd (omega (arith, ap (λ (t : Text). get_or t 4 0) both))
-same_text found (Answer one) ShowAndJson is wrong =
+same_text found (Answer one) (wrong_value.Clash other) is wrong =
+    let both : codes "explain" ≡ codes "explore" = sym is.0 ∙ wrong.0 in
+    absurd (omega (arith, ap (λ (t : Text). get_or t 4 0) both))
+same_text found (wrong_value.Shard one) (Range other) is wrong = absurd (omega (arith, same_first (sym is.0 ∙ wrong.0)))
+same_text found (Range one) (wrong_value.Shard other) is wrong = absurd (omega (arith, same_first (sym is.0 ∙ wrong.0)))
+same_text found (wrong_value.Shard one) (Answer other) is wrong =
+    let both : codes "explore" ≡ codes "explain" = sym is.0 ∙ wrong.0 in
+    absurd (omega (arith, ap (λ (t : Text). get_or t 4 0) both))
+same_text found (Answer one) (wrong_value.Shard other) is wrong =
     let both : codes "explain" ≡ codes "explore" = sym is.0 ∙ wrong.0 in
     absurd (omega (arith, ap (λ (t : Text). get_or t 4 0) both))
 same_text found (Answer one) (Range other) is wrong = absurd (omega (arith, same_first (sym is.0 ∙ wrong.0)))
@@ -192,6 +243,7 @@ other_name found (report.Conform conformance written) by none same = omega (arit
 other_name found report.Expand by none same = omega (arith, same_first (sym by ∙ same))
 other_name found (report.Explore exploring) by none same = omega (arith, same_first (sym by.0 ∙ same))
 other_name found (report.Show showing) by none same = omega (arith, same_first (sym by.0 ∙ same))
+other_name found (report.Sample sampling) by none same = omega (arith, same_first (sym by.0 ∙ same))
 
 -- they name it whatever their matches are
 command : (words : List Text) (rows : List Row) → NameThreads words rows → command_in words ≡ Some (codes "threads")

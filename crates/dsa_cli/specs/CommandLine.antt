@@ -5,7 +5,7 @@ use Rattle.dsa_check.specs.declared.checking.CheckForm.TheVariants as check_form
 use Rattle.dsa_exploration.specs.declared.exploration.Form.TheVariants as exploration
 use Rattle.std.specs.Prelude.{◌≡◌, ◌≢◌, ◌⊎◌, ◌<◌, ◌≤◌, ℕ, pos, Bool, true, false, List, [], ◌∷◌, ◌++◌}
 use Rattle.std.specs.Prelude.{length, take, fold, codes, decimal, bytes_eq, is_some, if◌then◌else◌}
-use Rattle.std.specs.Prelude.{Option, Some, None, option_and_then, option_map}
+use Rattle.std.specs.Prelude.{Option, Some, None, option_and_then, option_map, unwrap_or, cond, not, ◌&&◌}
 use Rattle.std.specs.{List.{join_by}, Option.{option_map_or}}
 use Rattle.std.specs.Io.KnownBytes.{Appends}
 use Rattle.std.specs.Str.Parse.{IsNumeral, digits_value, without_leading_plus}
@@ -24,7 +24,7 @@ use Rattle.dsa_check.specs.declared.checking.CheckForm.TheVariants.{Lines, Sourc
 use Rattle.dsa_conform.specs.declared.rendering.Conformance.{Conformance}
 use Rattle.dsa_draw.specs.{declared.range.StepRange.{StepRange}, Ranges.{all_steps, range_of_text}}
 use Rattle.dsa_chosen.specs.{declared.selection.Selection.{Selection}, Words.{answer_words, unknown_word}}
-use Rattle.dsa_explore.specs.declared.search.Bounds.{Bounds}
+use Rattle.dsa_explore.specs.declared.{sampling.Walks.{Walks}, search.Bounds.{Bounds}}
 use Rattle.dsa_exploration.specs.declared.exploration.Form.{Form}
 use Rattle.dsa_serve.specs.Dialogue.{IsAllAnswered, IsLate, IsStopped}
 use Rattle.dsa_cli.specs.Reports.{IsReported, IsReportCutShort, IsReportBegun}
@@ -35,7 +35,11 @@ use Rattle.dsa_cli.specs.declared.options.Workload.{Workload}
 use Rattle.dsa_cli.specs.declared.options.Asked.{Asked}
 use Rattle.dsa_cli.specs.declared.options.Asked.TheVariants.{Scenario, Serve, Threads}
 use Rattle.dsa_cli.specs.declared.options.Asked.TheVariants.{HighThreshold}
-use Rattle.dsa_cli.specs.declared.options.WrongValue.{WrongValue, TheVariants.{Answer, Range, ShowAndJson}}
+use Rattle.dsa_cli.specs.declared.options.Clash.{Clash}
+use Rattle.dsa_cli.specs.declared.options.Clash.TheVariants.{ShowAndJson, WalksAndShow, SeedAlone, ShardAlone}
+use Rattle.dsa_cli.specs.declared.options.WrongValue.{WrongValue, TheVariants.{Answer, Range}}
+use Rattle.dsa_cli.specs.declared.options.WrongValue.TheVariants as wrong
+use Rattle.dsa_cli.specs.{Shards.{shard_of_text, whole_shard}, declared.shard.Shard.{Shard}}
 
 -- the option `--name`, which has a value
 abbrev pub text_rule : Text → Rule
@@ -89,7 +93,8 @@ abbrev pub explore_app : App
 explore_app = command_app (codes "explore") (
     default_rule (codes "states") 1 16_777_216 (codes "100000") ∷
     default_rule (codes "key-bytes") 1 65_536 (codes "256") ∷ text_rule (codes "show") ∷
-    flag_rule (codes "json") ∷ [])
+    number_rule (codes "walks") 1 4_294_967_295 ∷ number_rule (codes "seed") 0 4_294_967_295 ∷
+    text_rule (codes "shard") ∷ flag_rule (codes "json") ∷ [])
 
 abbrev pub check_app : App
 check_app = command_app (codes "check") (
@@ -248,6 +253,32 @@ is_json_given rows = option_map_or (λ text. bytes_eq text (codes "true")) (firs
 abbrev pub search_form : List Row → Form
 search_form rows = if is_json_given rows then exploration.Json else exploration.Table
 
+-- the option `--name` has a text in these matches
+abbrev pub is_text_given : List Row → Text → Bool
+is_text_given rows name = is_some (first_of name rows)
+
+-- the first two options that do not go together, by which of them are given (profile)
+abbrev pub clash_by : (show json walks seed shard : Bool) → Option Clash
+clash_by show json walks seed shard =
+    cond (show && json) (Some ShowAndJson) (cond (walks && show) (Some WalksAndShow)
+    (cond (not walks && seed) (Some SeedAlone) (cond (not walks && shard) (Some ShardAlone) None)))
+
+-- those of `explore` in these matches
+abbrev pub clash_in : List Row → Option Clash
+clash_in rows = clash_by (is_text_given rows (codes "show")) (is_json_given rows) (is_text_given rows (codes "walks"))
+    (is_text_given rows (codes "seed")) (is_text_given rows (codes "shard"))
+
+-- the shard that the text of the option `--shard` names, and all walks where it is not given
+abbrev pub shard_asked : List Row → Option Shard
+shard_asked rows = option_map_or shard_of_text (first_of (codes "shard") rows) (Some whole_shard)
+
+-- the walks are those that the options of `explore` say; the seed is 0 where none is given
+pub record AreWalksGiven (rows : List Row) (walks : Walks) : Type 0 where
+  pub count : IsNumberOf rows (codes "walks") 1 4_294_967_295 walks.count
+  pub seed : (given : Option ℕ) × IsNumberGiven rows (codes "seed") 4_294_967_295 given
+      × (walks.seed ≡ unwrap_or given 0)
+  pub shard : shard_asked rows ≡ Some (record { number = walks.shard; count = walks.shards })
+
 -- the command with these matches asks for the report (profile)
 abbrev pub IsAskedBy : Text × List Row → Report → Type 0
 IsAskedBy found (report.Check check) = (found.0 ≡ codes "check") × IsCheckOf found.1 check
@@ -264,10 +295,14 @@ IsAskedBy found (report.Conform conformance written) =
 IsAskedBy found report.Expand = found.0 ≡ codes "expand"
 IsAskedBy found (report.Explore exploring) =
     (found.0 ≡ codes "explore") × AreBoundsOf found.1 exploring.bounds × (first_of (codes "show") found.1 ≡ None)
-    × (exploring.form ≡ search_form found.1)
+    × (exploring.form ≡ search_form found.1) × (is_text_given found.1 (codes "walks") ≡ false)
+    × (clash_in found.1 ≡ None)
 IsAskedBy found (report.Show showing) =
     (found.0 ≡ codes "explore") × AreBoundsOf found.1 showing.bounds
-    × (first_of (codes "show") found.1 ≡ Some showing.row.now) × (is_json_given found.1 ≡ false)
+    × (first_of (codes "show") found.1 ≡ Some showing.row.now) × (clash_in found.1 ≡ None)
+IsAskedBy found (report.Sample sampling) =
+    (found.0 ≡ codes "explore") × AreWalksGiven found.1 sampling.walks × (is_text_given found.1 (codes "walks") ≡ true)
+    × (sampling.form ≡ search_form found.1) × (clash_in found.1 ≡ None)
 
 -- the command is one that asks for a report
 abbrev pub IsReportName : Text → Type 0
@@ -341,14 +376,16 @@ IsServeStopped rows fault had left contents old new =
 abbrev pub AskNoInput : List Text → Type 0
 AskNoInput words = (faults_of_words words ≢ []) ⊎ ((rows : List Row) × NameThreads words rows)
 
--- the command has this value, of an option: no answer begins with the word, or the text names no steps; or it has a row
--- to show and `--json`, too (profile)
+-- the command has this value, of an option: no answer begins with the word, or the text names no steps, or no shard; or
+-- it has two options that do not go together, or one without the other that it needs (profile)
 abbrev pub IsWrongIn : Text × List Row → WrongValue → Type 0
 IsWrongIn found (Answer word) = (found.0 ≡ codes "explain") × (unknown_answer found.1 ≡ Some word.now)
 IsWrongIn found (Range text) = (found.0 ≡ codes "draw") × (first_of (codes "steps") found.1 ≡ Some text.now)
     × (range_of_text text.now ≡ None)
-IsWrongIn found ShowAndJson = (found.0 ≡ codes "explore") × (is_some (first_of (codes "show") found.1) ≡ true)
-    × (is_json_given found.1 ≡ true)
+IsWrongIn found (wrong.Clash clash) = (found.0 ≡ codes "explore") × (clash_in found.1 ≡ Some clash)
+IsWrongIn found (wrong.Shard text) = (found.0 ≡ codes "explore") × (first_of (codes "shard") found.1 ≡ Some text.now)
+    × (shard_of_text text.now ≡ None) × (is_text_given found.1 (codes "walks") ≡ true)
+    × (first_of (codes "show") found.1 ≡ None) × (clash_in found.1 ≡ None)
 
 abbrev pub AskWrongValue : List Text → WrongValue → Type 0
 AskWrongValue words value = (found : Text × List Row) × NameReport words found × IsWrongIn found value
@@ -364,15 +401,27 @@ abbrev pub unknown_range_text : Text → List ℕ
 unknown_range_text text = codes "error: invalid value '" ++ text
     ++ codes "' for '--steps <A..B>': a range as 3..9, 3.. or ..9 is wanted\n\nFor more information, try '--help'.\n"
 
--- what is said of a row and `--json` (profile)
-abbrev pub show_and_json_text : List ℕ
-show_and_json_text = codes "error: the argument '--show <ROW>' cannot be used with '--json'\n\n"
-    ++ codes "For more information, try '--help'.\n"
+-- which options do not go together (profile)
+abbrev pub clash_words : Clash → List ℕ
+clash_words ShowAndJson = codes "--show <ROW>' cannot be used with '--json"
+clash_words WalksAndShow = codes "--walks <NUMBER>' cannot be used with '--show <ROW>"
+clash_words SeedAlone = codes "--seed <NUMBER>' cannot be used without '--walks <NUMBER>"
+clash_words ShardAlone = codes "--shard <I/K>' cannot be used without '--walks <NUMBER>"
+
+-- what is said of that (profile)
+abbrev pub clash_text : List ℕ → List ℕ
+clash_text words = codes "error: the argument '" ++ words ++ codes "'\n\nFor more information, try '--help'.\n"
+
+-- what is said of a text that names no shard (profile)
+abbrev pub unknown_shard_text : Text → List ℕ
+unknown_shard_text text = codes "error: invalid value '" ++ text
+    ++ codes "' for '--shard <I/K>': a shard as 0/4 is wanted\n\nFor more information, try '--help'.\n"
 
 abbrev pub wrong_value_text : WrongValue → List ℕ
 wrong_value_text (Answer word) = unknown_answer_text word.now
 wrong_value_text (Range text) = unknown_range_text text.now
-wrong_value_text ShowAndJson = show_and_json_text
+wrong_value_text (wrong.Clash clash) = clash_text (clash_words clash)
+wrong_value_text (wrong.Shard text) = unknown_shard_text text.now
 
 -- something is wrong with the words
 abbrev pub IsMistaken : List Text → Type 0

@@ -3,7 +3,8 @@ use Rattle.std.specs.Prelude.{◌≡◌, ◌⊎◌, ◌<◌, ℕ, List, Option, 
 use Rattle.std.specs.Io.KnownBytes.{Appends}
 use Rattle.dsa_scenario.specs.declared.faults.ScenarioFault.{ScenarioFault, TheVariants.{TooLong}}
 use Rattle.dsa_scenario.specs.Scenario.{HasFault, IsTextWritten, IsTextCutShort}
-use Rattle.dsa_check.specs.Check.{IsCheckReportOf as IsCheckOf, too_long_text}
+use Rattle.dsa_check.specs.Check.{too_long_text}
+use Rattle.dsa_party_check.specs.PartyCheck.{IsWholeCheck}
 use Rattle.dsa_conform.specs.{AsSeen.{IsMadeAsSeen}, Every.{IsConformanceOf}}
 use Rattle.dsa_named.specs.Steps.{NamedVisit, IsNamedText}
 use Rattle.dsa_named_lines.specs.Run.{AreNamedLinesOf}
@@ -17,11 +18,11 @@ use Rattle.dsa_chrome.specs.Traces.{IsChromeTraceOf}
 use Rattle.dsa_count.specs.Totals.{AreTotalsOfDocument}
 use Rattle.dsa_draw.specs.Drawings.{IsDrawnOf}
 use Rattle.dsa_expand.specs.{Expansion.{IsExpansion}, Friendly.{IsMadeOfFriendly}}
-use Rattle.dsa_exploration.specs.{Exploration.{IsExplorationOf}, Showing.{IsShowingOf}}
+use Rattle.dsa_exploration.specs.{Exploration.{IsExplorationOf}, Sampling.{IsSamplingOf}, Showing.{IsShowingOf}}
 use Rattle.dsa_cli.specs.declared.reports.{Report.{Report}, Run.{Run, TheVariants.{Own, Seen}}}
 use Rattle.dsa_cli.specs.declared.reports.Written.{Written, TheVariants.{Strict, Friendly}}
 use Rattle.dsa_cli.specs.declared.reports.Report.TheVariants.{Check, Explain, Trace, Chrome, Count}
-use Rattle.dsa_cli.specs.declared.reports.Report.TheVariants.{Draw, Conform, Expand, Explore, Show}
+use Rattle.dsa_cli.specs.declared.reports.Report.TheVariants.{Draw, Conform, Expand, Explore, Sample, Show}
 
 -- the text, and the fault that is told after it, are made of this run of a document (profile)
 abbrev pub IsMadeOfRun : Run → (List Visit → Running → List ℕ → Type 0) → List ℕ → Option ScenarioFault → List ℕ
@@ -43,7 +44,7 @@ IsMadeOfWritten Friendly is_made bytes fault text = IsMadeOfFriendly is_made byt
 
 -- they are this report on a document (profile)
 abbrev pub IsReportOf : Report → List ℕ → Option ScenarioFault → List ℕ → Type 0
-IsReportOf (Check check) bytes fault text = IsCheckOf check bytes fault text
+IsReportOf (Check check) bytes fault text = IsWholeCheck check bytes fault text
 IsReportOf (Explain selection run) bytes fault text = IsNamedOfRun run (AreNamedLinesOf selection) bytes fault text
 IsReportOf (Trace form run) bytes fault text = IsNamedOfRun run (IsNamedTraceOf form) bytes fault text
 IsReportOf (Chrome run) bytes fault text = IsMadeOfRun run IsChromeTraceOf bytes fault text
@@ -54,6 +55,7 @@ IsReportOf (Conform conformance written) bytes fault text =
 IsReportOf Expand bytes fault text = IsExpansion bytes fault text
 IsReportOf (Explore exploring) bytes fault text = IsExplorationOf exploring.form exploring.bounds bytes fault text
 IsReportOf (Show showing) bytes fault text = IsShowingOf showing.bounds showing.row.now bytes fault text
+IsReportOf (Sample sampling) bytes fault text = IsSamplingOf sampling.form sampling.walks bytes fault text
 
 -- the form of a trace of the device's own run, which alone is written on the way (profile)
 abbrev pub streamed_form : Report → Option TraceForm

@@ -9,12 +9,14 @@ mod options;
 mod pace;
 mod reports;
 pub mod rows;
+mod shard;
 mod threads;
 mod totals;
 mod words;
 
-pub use options::{Asked, Workload, WrongValue, read_words};
+pub use options::{Asked, Clash, Workload, WrongValue, read_words};
 pub use reports::{Report, Run, Written};
+pub use shard::Shard;
 pub use threads::{ThreadsFault, run_workload};
 pub use totals::render_totals;
 pub use words::{answer_words, run_words, tell};

@@ -16,16 +16,19 @@ ghost use Rattle.dsa_cli.specs.CommandLine.{IsChosenBy, IsFormOf, IsGivenElse, I
 ghost use Rattle.dsa_cli.specs.CommandLine.{IsAskedBy, IsReportName, AsksBy, AsksFor};
 ghost use Rattle.dsa_cli.specs.CommandLine.{IsCheckFormOf, IsConformanceChosen, IsWrittenIn};
 ghost use Rattle.dsa_cli.specs.CommandLine.{is_json_given, range_asked, search_form, unknown_answer};
+ghost use Rattle.dsa_cli.specs.CommandLine.{AreWalksGiven, clash_by, clash_in, is_text_given, shard_asked};
+ghost use Rattle.dsa_cli.specs.Shards.{shard_of_text};
 ghost use Rattle.dsa_draw.specs.Ranges.{range_of_text};
 ghost use Rattle.dsa_cli.specs.CommandLine.{faults_of_words};
 
 use crate::reports::{Report, Run, Written};
+use crate::shard::Shard;
 use clap::{Arg, ArgAction, ArgMatches, Command, Error, value_parser};
 use dsa_check::{Check, CheckForm};
 use dsa_chosen::{AnswerWords, Selection};
 use dsa_conform::Conformance;
 use dsa_draw::{Drawing, StepRange};
-use dsa_exploration::{Bounds, Exploring, Form, Showing};
+use dsa_exploration::{Bounds, Exploring, Form, Sampling, Showing, Walks};
 use dsa_release::version_text;
 use dsa_trace::Trace;
 use std::alloc::{AllocError, Global};
@@ -58,8 +61,23 @@ pub enum WrongValue<'a> {
     Answer(&'a str),
     /// A text that names no range of steps.
     Range(&'a str),
-    /// A row of a search to show, and a JSON object in each line.
+    /// Options of a search that do not go together.
+    Clash(Clash),
+    /// A text that names no shard of walks.
+    Shard(&'a str),
+}
+
+/// Two options of a search of which each forbids the other, or one without the other that it needs.
+#[derive(Clone, Copy, Debug, PartialEq, Eq)]
+pub enum Clash {
+    /// A row to show, and a JSON object in each line.
     ShowAndJson,
+    /// Walks, and a row to show.
+    WalksAndShow,
+    /// A seed without walks.
+    SeedAlone,
+    /// A shard without walks.
+    ShardAlone,
 }
 
 /// What the words ask for.
@@ -186,11 +204,16 @@ that lead to it. The last line says how many states were stored and steps tried,
 the search is complete. Memory is taken at once: about --states times (--key-bytes + 40)
 bytes. With --show it writes a scenario document in place of the table: the set-up and then
 as few steps as the row says, with their answers. ROW is what stands before the brackets,
-such as \"move: aborted 9\" or \"disable: waits for move\". With --json each line is a JSON
-object: one for each answer, end and question, in the order of the table.
+such as \"move: aborted 9\" or \"disable: waits for move\", or what stands before the colon of a
+question, such as \"never a move is lost\": the steps that break it, or that keep a sometimes.
+With --json each line is a JSON object: one for each answer, end and question, in the order
+of the table. With --walks it makes random walks in place of the search: steps that lead on,
+chosen one after the other. Then the brackets have the fewest steps that one of the walks
+took, and more may come than is written. --states and --key-bytes are bounds of a search
+alone.
 
-Exit status: 0 the search is complete, or the row is shown, 1 it met its bounds, or a fault
-(its line goes to standard error), 2 a usage error.";
+Exit status: 0 the search is complete, or the steps are shown, 1 it met its bounds, or walks
+were made, or a fault (its line goes to standard error), 2 a usage error.";
 
 const SERVE_HELP: &str = "\
 Reads one scenario document (JSON), in one line or several, from standard input, and then a
@@ -241,7 +264,13 @@ const STATES: &str = "How many states may be stored, 1 to 16777216";
 
 const KEY_BYTES: &str = "How many bytes the key of a state may have, 1 to 65536";
 
-const SHOW: &str = "Write the steps that show this row of the table, as a document";
+const WALKS: &str = "Make so many random walks in place of a search, 1 to 4294967295";
+
+const SEED: &str = "The seed of their choices, 0 to 4294967295, and 0 if it is not given";
+
+const SHARD: &str = "Make those walks alone whose number leaves I when divided by K";
+
+const SHOW: &str = "Write the steps that show this row or question, as a document";
 
 const STEPS: &str = "Draw the steps from A to B, as 3..9, 3.. or ..9";
 
@@ -468,6 +497,11 @@ fn explore_command<'a>(alloc: Global) -> Result<Command<'a>, AllocError>
         KEY_BYTES,
     )?;
     let command = with_option(command, text_option(alloc, "show", "ROW", SHOW))?;
+    let walks = number_option(alloc, "walks", 1, u32::MAX, WALKS);
+    let command = with_option(command, walks)?;
+    let seed = number_option(alloc, "seed", 0, u32::MAX, SEED);
+    let command = with_option(command, seed)?;
+    let command = with_option(command, text_option(alloc, "shard", "I/K", SHARD))?;
     with_flag(alloc, command, "json", "Write a JSON object in each line")
 }
 
@@ -732,29 +766,131 @@ fn search_form(given: &ArgMatches<'_>) -> Form
     }
 }
 
-// The document of a row, which the option `--show` names, unless JSON is asked for.
-fn showing_asked<'a>(given: &ArgMatches<'a>, row: &'a str) -> Asked<'a>
-    requires { first_of (codes "show") (rows_of (found_of given.now)) ≡ Some row.now }
+// Whether an option has a text.
+fn is_text_given(given: &ArgMatches<'_>, name: &str) -> bool
+    ensures { result ≡ is_text_given (rows_of (found_of given.now)) name.now }
+{
+    given.get_str(name).is_some()
+}
+
+// The first two options that do not go together, by which of them are given.
+fn clash_by(show: bool, json: bool, walks: bool, seed: bool, shard: bool) -> Option<Clash>
+    ensures { result ≡ clash_by show json walks seed shard }
+{
+    if show && json {
+        return Some(Clash::ShowAndJson);
+    }
+    if walks && show {
+        return Some(Clash::WalksAndShow);
+    }
+    if !walks && seed {
+        return Some(Clash::SeedAlone);
+    }
+    if !walks && shard {
+        return Some(Clash::ShardAlone);
+    }
+    None
+}
+
+// Those of `explore`.
+fn clash_in(given: &ArgMatches<'_>) -> Option<Clash>
+    ensures { result ≡ clash_in (rows_of (found_of given.now)) }
+{
+    let show = is_text_given(given, "show");
+    let walks = is_text_given(given, "walks");
+    let seed = is_text_given(given, "seed");
+    let shard = is_text_given(given, "shard");
+    clash_by(show, is_json_given(given), walks, seed, shard)
+}
+
+// The seed that the option of `explore` says.
+fn seed_given(given: &ArgMatches<'_>) -> Option<u32>
+    ensures { IsNumberGiven (rows_of (found_of given.now)) (codes "seed") 4_294_967_295 result }
+{
+    given.get_one::<u32>("seed")
+}
+
+// The shard that the option of `explore` names, or a text that names none.
+fn shard_given<'a>(given: &ArgMatches<'a>) -> Result<Shard, &'a str>
+    ensures shard { IfOk result
+        (λ shard. shard_asked (rows_of (found_of given.now)) ≡ Some shard) }
+    ensures text { IfErr result
+        (λ text. first_of (codes "shard") (rows_of (found_of given.now)) ≡ Some text.now) }
+    ensures wrong { IfErr result (λ text. shard_of_text text.now ≡ None) }
+{
+    match given.get_str("shard") {
+        Some(words) => match Shard::parse(words) {
+            Some(shard) => Ok(shard),
+            None => Err(words),
+        },
+        None => Ok(Shard::whole()),
+    }
+}
+
+// The walks of this shard that the options of `explore` say.
+fn walks_of(given: &ArgMatches<'_>, shard: Shard) -> Walks
+    requires { shard_asked (rows_of (found_of given.now)) ≡ Some shard }
+    ensures { AreWalksGiven (rows_of (found_of given.now)) result }
+{
+    Walks {
+        count: number_of(given, "walks", 1, u32::MAX),
+        seed: u64::from(seed_given(given).unwrap_or(0)),
+        shard: shard.number,
+        shards: shard.count,
+    }
+}
+
+// What random walks find, which the option `--walks` asks for.
+fn sampling_asked<'a>(given: &ArgMatches<'a>) -> Asked<'a>
+    requires walks { is_text_given (rows_of (found_of given.now)) (codes "walks") ≡ true }
+    requires show { first_of (codes "show") (rows_of (found_of given.now)) ≡ None }
+    requires clash { clash_in (rows_of (found_of given.now)) ≡ None }
     ensures { AsksBy (codes "explore", rows_of (found_of given.now)) result }
 {
-    if is_json_given(given) {
-        return Asked::WrongValue(WrongValue::ShowAndJson);
+    match shard_given(given) {
+        Ok(shard) => {
+            let form = search_form(given);
+            let walks = walks_of(given, shard);
+            Asked::Report(Report::Sample(Sampling { form, walks }))
+        }
+        Err(text) => Asked::WrongValue(WrongValue::Shard(text)),
     }
+}
+
+// The document of a row, which the option `--show` names.
+fn showing_asked<'a>(given: &ArgMatches<'a>, row: &'a str) -> Asked<'a>
+    requires row { first_of (codes "show") (rows_of (found_of given.now)) ≡ Some row.now }
+    requires clash { clash_in (rows_of (found_of given.now)) ≡ None }
+    ensures { AsksBy (codes "explore", rows_of (found_of given.now)) result }
+{
     let bounds = bounds_of(given);
     Asked::Report(Report::Show(Showing { bounds, row }))
+}
+
+// What `explore` asks for with options that go together, without a row to show.
+fn table_asked<'a>(given: &ArgMatches<'a>) -> Asked<'a>
+    requires show { first_of (codes "show") (rows_of (found_of given.now)) ≡ None }
+    requires clash { clash_in (rows_of (found_of given.now)) ≡ None }
+    ensures { AsksBy (codes "explore", rows_of (found_of given.now)) result }
+{
+    if is_text_given(given, "walks") {
+        return sampling_asked(given);
+    }
+    let form = search_form(given);
+    let bounds = bounds_of(given);
+    Asked::Report(Report::Explore(Exploring { form, bounds }))
 }
 
 // What `explore` with these options asks for.
 fn exploration_asked<'a>(given: &ArgMatches<'a>) -> Asked<'a>
     ensures { AsksBy (codes "explore", rows_of (found_of given.now)) result }
 {
+    if let Some(clash) = clash_in(given) {
+        return Asked::WrongValue(WrongValue::Clash(clash));
+    }
     match given.get_str("show") {
         Some(row) => showing_asked(given, row),
-        None => {
-            let form = search_form(given);
-            let bounds = bounds_of(given);
-            Asked::Report(Report::Explore(Exploring { form, bounds }))
-        }
+        None => table_asked(given),
     }
 }
 

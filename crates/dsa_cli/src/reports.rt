@@ -13,11 +13,12 @@ use dsa_chrome::ChromeTrace;
 use dsa_conform::{AsSeen, Conformance};
 use dsa_draw::Drawing;
 use dsa_expand::{Expansion, Friendly};
-use dsa_exploration::{Exploring, Showing};
+use dsa_exploration::{Exploring, Sampling, Showing};
 use dsa_named::{RenderNamed, WithNames};
 use dsa_named_lines::NamedLines;
 use dsa_named_seen::SeenWithNames;
 use dsa_named_trace::NamedTrace;
+use dsa_party_check::WholeCheck;
 use dsa_scenario::{Render, RenderSteps, Rendered, render_steps};
 use dsa_trace::Trace;
 use std::alloc::Global;
@@ -75,6 +76,8 @@ pub enum Report<'a> {
     Explore(Exploring),
     /// The document of a row of that.
     Show(Showing<'a>),
+    /// What random walks of its parties find.
+    Sample(Sampling),
 }
 
 // What `what` makes of this run of the document in these bytes.
@@ -108,7 +111,7 @@ impl Render for Report<'_> {
 
     fn render(&self, alloc: Global, bytes: &[u8]) -> Rendered {
         match *self {
-            Report::Check(check) => check.render(alloc, bytes),
+            Report::Check(check) => WholeCheck { check }.render(alloc, bytes),
             Report::Explain(selection, run) => {
                 render_named(alloc, NamedLines { selection }, run, bytes)
             }
@@ -121,6 +124,7 @@ impl Render for Report<'_> {
             Report::Expand => Expansion.render(alloc, bytes),
             Report::Explore(exploring) => exploring.render(alloc, bytes),
             Report::Show(showing) => showing.render(alloc, bytes),
+            Report::Sample(sampling) => sampling.render(alloc, bytes),
         }
     }
 }

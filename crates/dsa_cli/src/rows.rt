@@ -32,7 +32,9 @@ ghost use Rattle.dsa_cli.specs.declared.options.Workload.{Workload};
 ghost use Rattle.dsa_cli.specs.declared.options.Asked.TheVariants.{Scenario, Report, Serve};
 ghost use Rattle.dsa_cli.specs.declared.options.Asked.TheVariants.{Threads, HighThreshold};
 ghost use Rattle.dsa_cli.specs.declared.options.Asked.TheVariants.{WrongValue};
-ghost use Rattle.dsa_cli.specs.declared.options.WrongValue.TheVariants.{Answer, Range, ShowAndJson};
+ghost use Rattle.dsa_cli.specs.declared.options.WrongValue.TheVariants.{Answer, Range};
+ghost use Rattle.dsa_cli.specs.declared.options.WrongValue.TheVariants as wrong_value;
+ghost use Rattle.dsa_cli.specs.declared.options.Clash.TheVariants.{ShowAndJson};
 ghost use Rattle.dsa_check.specs.declared.checking.CheckForm.TheVariants as check_form;
 ghost use Rattle.clap.specs.declared.error.kind.ErrorKind.TheVariants.{UnknownArgument};
 ghost use Rattle.clap.specs.declared.error.kind.ErrorKind.TheVariants.{InvalidSubcommand};
@@ -46,7 +48,7 @@ ghost use Rattle.dsa_cli.specs.declared.reports.Written.{Written};
 ghost use Rattle.dsa_cli.specs.declared.reports.Written.TheVariants.{Friendly, Strict};
 ghost use Rattle.dsa_trace.specs.declared.form.Trace.{Trace as TraceForm};
 ghost use Rattle.dsa_trace.specs.declared.form.Trace.TheVariants.{Table, Wide, Changes, Json};
-ghost use Rattle.dsa_scenario.specs.declared.faults.ScenarioFault.TheVariants.{BadCaps, Read};
+ghost use Rattle.dsa_scenario.specs.declared.faults.ScenarioFault.TheVariants.{BadCaps, BadQuestion, Read};
 ghost use Rattle.dsa_scenario.specs.declared.faults.ScenarioFault.TheVariants.{BadStep};
 ghost use Rattle.dsa_scenario.specs.declared.faults.ScenarioFault.TheVariants.{Incomplete};
 ghost use Rattle.dsa_scenario.specs.declared.faults.ScenarioFault.TheVariants.{TooLong, Write};
@@ -56,7 +58,8 @@ ghost use Rattle.dsa_scenario.specs.Scenario.{HasFault, IsTextCutShort, IsTextWr
 ghost use Rattle.dsa_serve.specs.Dialogue.{AnswersAll};
 ghost use Rattle.dsa_scenario.specs.Faults.{fault_line};
 ghost use Rattle.dsa_scenario.specs.Watched.{has_refused, is_closed, IsSameWriter};
-ghost use Rattle.dsa_check.specs.Check.{IsCheckReportOf, too_long_text};
+ghost use Rattle.dsa_check.specs.Check.{too_long_text};
+ghost use Rattle.dsa_party_check.specs.PartyCheck.{IsWholeCheck};
 ghost use Rattle.dsa_check.specs.Worked.{plain_check, strict_check};
 ghost use Rattle.dsa_conform.specs.Every.{IsConformanceOf};
 ghost use Rattle.dsa_conform.specs.Run.{IsUnread};
@@ -74,7 +77,7 @@ ghost use Rattle.dsa_draw.specs.{Drawings.{IsDrawingOf}, Ranges.{all_steps}};
 ghost use Rattle.dsa_expand.specs.Friendly.{IsMadeOfFriendly};
 ghost use Rattle.dsa_exploration.specs.declared.exploration.Form.TheVariants as exploration;
 ghost use Rattle.dsa_exploration.specs.Exploration.{IsExplorationOf};
-ghost use Rattle.dsa_exploration.specs.Showing.{IsShown};
+ghost use Rattle.dsa_exploration.specs.Showing.{IsAnswerShowingOf, IsShown};
 ghost use Rattle.dsa_cli.specs.Reports.{IsReportBegun, IsReportCutShort, IsReportOf, IsReported};
 ghost use Rattle.dsa_cli.specs.Reports.{IsTooLongCut, IsTooLongTold, streamed_form};
 ghost use Rattle.dsa_cli.specs.Reports.{text_if_too_long};
@@ -187,7 +190,11 @@ pub fn options_of_commands()
         )
         ∷ (codes "draw", codes "steps" ∷ codes "seen" ∷ [])
         ∷ (codes "conform", codes "all" ∷ codes "friendly" ∷ [])
-        ∷ (codes "explore", codes "states" ∷ codes "key-bytes" ∷ codes "show" ∷ codes "json" ∷ [])
+        ∷ (
+          codes "explore",
+          codes "states" ∷ codes "key-bytes" ∷ codes "show" ∷ codes "walks" ∷ codes "seed"
+              ∷ codes "shard" ∷ codes "json" ∷ [],
+        )
         ∷ (codes "serve", codes "friendly" ∷ [])
         ∷ (
           codes "threads",
@@ -199,9 +206,10 @@ pub fn options_of_commands()
         ∷ None ∷ [] }
     ensures explore { map (λ option. option.parser) explore_app.top.rules
         ≡ Some (Signed (pos 1) (pos 16_777_216)) ∷ Some (Signed (pos 1) (pos 65_536)) ∷ None
-        ∷ None ∷ [] }
+        ∷ Some (Signed (pos 1) (pos 4_294_967_295)) ∷ Some (Signed (pos 0) (pos 4_294_967_295))
+        ∷ None ∷ None ∷ [] }
     ensures bounds { map (λ option. option.defaults) explore_app.top.rules
-        ≡ (codes "100000" ∷ []) ∷ (codes "256" ∷ []) ∷ [] ∷ [] ∷ [] }
+        ≡ (codes "100000" ∷ []) ∷ (codes "256" ∷ []) ∷ [] ∷ [] ∷ [] ∷ [] ∷ [] ∷ [] }
     ensures threads { map (λ option. option.parser) threads_app.top.rules
         ≡ Some (Signed (pos 1) (pos 16)) ∷ Some (Signed (pos 1) (pos 8))
         ∷ Some (Signed (pos 1) (pos 1_000)) ∷ Some (Signed (pos 1) (pos 40_000))
@@ -604,7 +612,7 @@ pub fn documents_too_long()
         (Some (codes "k" ++ too_long_text check_form.Lines)) }
     ensures nothing_else_told { (had left held holds : Option (List ℕ))
         → IsReported (Check plain_check) (Some BadCaps) had left held holds
-        → IsTextWritten (λ bytes text. IsCheckReportOf plain_check bytes (Some BadCaps) text)
+        → IsTextWritten (λ bytes text. IsWholeCheck plain_check bytes (Some BadCaps) text)
         had left held holds }
     ensures no_totals { (had left held holds : Option (List ℕ))
         → ¬ IsReported Count (Some TooLong) had left held holds }
@@ -778,17 +786,17 @@ pub fn lines_chosen()
         ≡ Some (drawing_of 3 10).steps ∷ None ∷ None ∷ [] }
     ensures show_and_json { IsWrongIn
         (codes "explore", json_rows (codes "true") (show_rows (codes "7") (codes "9") []))
-        ShowAndJson }
+        (wrong_value.Clash ShowAndJson) }
     ensures show_alone { ¬ IsWrongIn
         (codes "explore", json_rows (codes "false") (show_rows (codes "7") (codes "9") []))
-        ShowAndJson }
+        (wrong_value.Clash ShowAndJson) }
     ensures json_alone { ¬ IsWrongIn
         (codes "explore", json_rows (codes "true") (explore_rows (codes "7") (codes "9")))
-        ShowAndJson }
+        (wrong_value.Clash ShowAndJson) }
     ensures of_no_trace { ¬ IsWrongIn
         (codes "trace", json_rows (codes "true") (show_rows (codes "7") (codes "9") []))
-        ShowAndJson }
-    ensures said_of_show { wrong_value_text ShowAndJson
+        (wrong_value.Clash ShowAndJson) }
+    ensures said_of_show { wrong_value_text (wrong_value.Clash ShowAndJson)
         ≡ codes "error: the argument '--show <ROW>' cannot be used with '--json'"
         ++ codes "\n\nFor more information, try '--help'.\n" }
     ensures by_expand { AsksBy (codes "expand", []) (Report Expand) }
@@ -968,7 +976,7 @@ pub fn reports_of_documents()
         → ¬ IsReportOf (Draw whole_drawing Own) bytes (Some BadCaps) text }
     ensures check { (bytes text : List ℕ)
         → IsReportOf (Check plain_check) bytes (Some BadCaps) text
-        → IsCheckReportOf plain_check bytes (Some BadCaps) text }
+        → IsWholeCheck plain_check bytes (Some BadCaps) text }
     ensures explanation { (bytes text : List ℕ)
         → IsReportOf (Explain all_lines Own) bytes None text
         → AreNamedLines all_lines bytes text }
@@ -1002,6 +1010,9 @@ pub fn reports_of_documents()
     ensures row_shown { (bytes text : List ℕ)
         → IsReportOf (show_within 3 4 (codes "x: accepted")) bytes None text
         → IsShown (bounds_of 3 4) (codes "x: accepted") bytes text }
+    ensures answer_shown { (bytes text : List ℕ)
+        → IsReportOf (show_within 3 4 (codes "never 0")) bytes (Some (BadQuestion 0)) text
+        → IsAnswerShowingOf (bounds_of 3 4) (codes "never 0") bytes (Some (BadQuestion 0)) text }
     ensures conformance { (bytes text : List ℕ)
         → IsReportOf (Conform (comparison true) Strict) bytes (Some BadCaps) text
         → IsConformanceOf true bytes (Some BadCaps) text }
@@ -1071,7 +1082,7 @@ pub fn asked()
         (Report (explore_within exploration.Json 100_000 256)) }
     ensures no_table { ¬ AsksFor (codes "explore" ∷ codes "--json" ∷ [])
         (Report (explore_within exploration.Table 100_000 256)) }
-    ensures json_and_show { AsksFor json_and_show (WrongValue ShowAndJson) }
+    ensures json_and_show { AsksFor json_and_show (WrongValue (wrong_value.Clash ShowAndJson)) }
     ensures few_states { AsksFor (explore_with (codes "--states") (codes "1"))
         (Report (explore_within exploration.Table 1 256)) }
     ensures long_keys { AsksFor (explore_with (codes "--key-bytes") (codes "65536"))

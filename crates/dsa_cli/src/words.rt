@@ -21,8 +21,8 @@ ghost use Rattle.dsa_cli.specs.CommandLine.{NameNothing, NameThreads, NameReport
 ghost use Rattle.dsa_cli.specs.CommandLine.{IsServed, IsServedIn, IsServeStopped, IsServeStoppedIn};
 ghost use Rattle.dsa_cli.specs.CommandLine.{SayHighThreshold, high_threshold_text};
 ghost use Rattle.dsa_cli.specs.CommandLine.{AskWrongValue, wrong_value_text};
-ghost use Rattle.dsa_cli.specs.CommandLine.{show_and_json_text, unknown_answer_text};
-ghost use Rattle.dsa_cli.specs.CommandLine.{unknown_range_text};
+ghost use Rattle.dsa_cli.specs.CommandLine.{clash_text, clash_words, unknown_answer_text};
+ghost use Rattle.dsa_cli.specs.CommandLine.{unknown_range_text, unknown_shard_text};
 ghost use Rattle.dsa_cli.specs.CommandLine.{IsReportWritten, IsReportCut, IsReportLeft};
 ghost use Rattle.dsa_cli.specs.CommandLine.{AreTotalsWritten, AreTotalsCutShort};
 ghost use Rattle.dsa_cli.specs.Endings.{IsEnd, IsEndedBy, IsFaultTold, IsQuiet, IsWriteRefused};
@@ -31,7 +31,7 @@ ghost use Rattle.dsa_cli.specs.Endings.{IsUnwritten};
 ghost use Rattle.dsa_cli.specs.Reports.{IsReported, IsReportCutShort, IsReportBegun};
 ghost use Rattle.dsa_cli.specs.Reports.{IsTextOrTooLong, IsTextOrTooLongCut, text_if_too_long};
 
-use crate::options::{Asked, Workload, WrongValue, read_words};
+use crate::options::{Asked, Clash, Workload, WrongValue, read_words};
 use crate::reports::{Report, Written};
 use crate::threads::run_workload;
 use clap::Error;
@@ -332,12 +332,36 @@ fn refuse_range<E: Write>(err: &mut WatchedWriter<'_, E>, text: &str) -> u8
     REFUSED
 }
 
-// Says that a row is not shown as JSON lines, and gives the exit status.
-fn refuse_show<E: Write>(err: &mut WatchedWriter<'_, E>) -> u8
-    ensures { IsRefusal result E.contents err.old err.new show_and_json_text }
+// Which options do not go together.
+fn clash_words(clash: Clash) -> &'static str
+    ensures { result.now ≡ clash_words clash }
+{
+    match clash {
+        Clash::ShowAndJson => "--show <ROW>' cannot be used with '--json",
+        Clash::WalksAndShow => "--walks <NUMBER>' cannot be used with '--show <ROW>",
+        Clash::SeedAlone => "--seed <NUMBER>' cannot be used without '--walks <NUMBER>",
+        Clash::ShardAlone => "--shard <I/K>' cannot be used without '--walks <NUMBER>",
+    }
+}
+
+// Says that, and gives the exit status.
+fn refuse_clash<E: Write>(err: &mut WatchedWriter<'_, E>, words: &str) -> u8
+    ensures { IsRefusal result E.contents err.old err.new (clash_text words.now) }
 {
     let _ = err.print(format_args!(
-        "error: the argument '--show <ROW>' cannot be used with '--json'\n\n\
+        "error: the argument '{words}'\n\n\
+        For more information, try '--help'.\n"
+    ));
+    REFUSED
+}
+
+// Says that the text names no shard, and gives the exit status.
+fn refuse_shard<E: Write>(err: &mut WatchedWriter<'_, E>, text: &str) -> u8
+    ensures { IsRefusal result E.contents err.old err.new (unknown_shard_text text.now) }
+{
+    let _ = err.print(format_args!(
+        "error: invalid value '{text}' for '--shard <I/K>': \
+        a shard as 0/4 is wanted\n\n\
         For more information, try '--help'.\n"
     ));
     REFUSED
@@ -350,7 +374,8 @@ fn refuse_value<E: Write>(err: &mut WatchedWriter<'_, E>, value: WrongValue<'_>)
     match value {
         WrongValue::Answer(word) => refuse_answer(err, word),
         WrongValue::Range(text) => refuse_range(err, text),
-        WrongValue::ShowAndJson => refuse_show(err),
+        WrongValue::Clash(clash) => refuse_clash(err, clash_words(clash)),
+        WrongValue::Shard(text) => refuse_shard(err, text),
     }
 }
 

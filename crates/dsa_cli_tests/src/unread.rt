@@ -8,7 +8,7 @@ use std::process::Abort;
 use std::sync::Wait;
 use std::thread::Threads;
 
-const WRONG: [Words; 35] = [
+const WRONG: [Words; 39] = [
     &["fly"],
     &[""],
     &["--json"],
@@ -28,6 +28,10 @@ const WRONG: [Words; 35] = [
     &["explore", "--states", "0"],
     &["explore", "--key-bytes=65537"],
     &["explore", "--json", "--show", "x: accepted"],
+    &["explore", "--walks=0"],
+    &["explore", "--walks", "1", "--show", "x: accepted"],
+    &["explore", "--walks", "1", "--shard", "2/2"],
+    &["explore", "--seed", "1"],
     &["serve", "serve"],
     &["serve", "--friendly", "--friendly"],
     &["threads", "extra"],

@@ -22,6 +22,11 @@ abbrev pub number_from : ℕ → List ℕ → Option ℕ
 number_from number [] = Some number
 number_from number (byte ∷ bytes) = option_and_then (λ more. number_from more bytes) (digit_more number byte)
 
+-- the number of a text of digits alone
+abbrev pub digits_number : List ℕ → Option ℕ
+digits_number [] = None
+digits_number (byte ∷ bytes) = number_from 0 (byte ∷ bytes)
+
 -- a bound, or what stands for none
 abbrev pub bound_of : ℕ → List ℕ → Option ℕ
 bound_of absent [] = Some absent

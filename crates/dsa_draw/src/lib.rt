@@ -26,5 +26,5 @@ mod run;
 pub use geometry::{column_left, columns_wide, lane_top, level_high};
 pub use marks::{Mark, mark_of};
 pub use moment::{Level, Moment, group_level, queue_level, take_moment};
-pub use range::StepRange;
+pub use range::{StepRange, digits_number};
 pub use run::{Drawing, Story};

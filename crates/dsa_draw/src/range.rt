@@ -1,7 +1,7 @@
 //! Which steps of a run a drawing has.
 
 ghost use Rattle.std.specs.Prelude.{◌≡◌, ◌==◌, ◌<◌, IfSome, length, position};
-ghost use Rattle.dsa_draw.specs.Ranges.{all_steps, narrow, digit_more, number_from, bound_of, range_between, range_of_bounds, range_around, range_at, range_of_text, within, column_of, columns_of, is_in_range, moments_in, ended_before};
+ghost use Rattle.dsa_draw.specs.Ranges.{all_steps, narrow, digit_more, number_from, digits_number, bound_of, range_between, range_of_bounds, range_around, range_at, range_of_text, within, column_of, columns_of, is_in_range, moments_in, ended_before};
 
 use crate::moment::Moment;
 
@@ -45,6 +45,17 @@ fn number_from(number: u32, digits: &[u8]) -> Option<u32>
         number = digit_more(number, *byte)?;
     }
     Some(number)
+}
+
+/// The number of a text of digits alone. `None` where it is another text, or has no 32 bits.
+pub fn digits_number(digits: &[u8]) -> Option<u32>
+    ensures { result ≡ digits_number digits.now }
+{
+    if digits.is_empty() {
+        None
+    } else {
+        number_from(0, digits)
+    }
 }
 
 // A bound, or what stands for none.

@@ -1,7 +1,7 @@
 -- Faults of parties, and what is told of them.
-use Rattle.std.proofs.Common.{◌≡◌, ◌+◌, ◌++◌, inl, inr, ap, ℕ, List, [], ◌∷◌, Bool, true, false, cond, length, Option, Some}
+use Rattle.std.proofs.Common.{◌≡◌, ◌+◌, inl, inr, ap, ℕ, List, [], ◌∷◌, Bool, true, false, cond, length, Option, Some}
 use Rattle.std.proofs.Common.{None, Ok, Err, subst}
-use Rattle.std.specs.Prelude.{◌⊎◌, Result, codes, is_none, ok_or}
+use Rattle.std.specs.Prelude.{◌⊎◌, Result, codes, ok_or}
 use Rattle.serde_json.specs.{Data.{Data}, Find.{get}}
 use Rattle.dsa_scenario.specs.declared.faults.ScenarioFault.{ScenarioFault}
 use Rattle.dsa_scenario.specs.declared.faults.ScenarioFault.TheVariants.{NoParties, BadParties, BadParty, TooManyParties}
@@ -11,8 +11,9 @@ use Rattle.dsa_plans.specs.{Said.{items_in, read_or}, Submitters.{client_onto}}
 use Rattle.dsa_plans.specs.Plans.{Tables, PartyLists, are_few, few_tables, ok_and_then, parties_onto, parties_said}
 use Rattle.dsa_plans.specs.Plans.{party_lists, script_said, tables_said, tables_with}
 use Rattle.dsa_explore.specs.declared.search.Bounds.{Bounds}
-use Rattle.dsa_questions.specs.declared.question.Kind.{Kind, TheVariants.{Never, Sometimes}}
-use Rattle.dsa_questions.specs.Reading.{Asked, all_of, key_of, list_onto, question_said, questions_onto, questions_said}
+use Rattle.dsa_questions.specs.declared.question.Kind.{Kind, TheVariants.{Never, Sometimes, Always}}
+use Rattle.dsa_questions.specs.Reading.{Inquiry, key_of, list_onto, question_onto, questions_onto, questions_said}
+use Rattle.dsa_questions.specs.Stating.{Nameable, nameable}
 use Rattle.dsa_exploration.specs.declared.exploration.Form.{Form}
 use Rattle.dsa_exploration.specs.Exploration.{HasBadParties, HasBadQuestion, IsExplorationOf}
 
@@ -69,34 +70,33 @@ module _ (P : ScenarioFault → Type 0) (none : P NoParties) (bad : P BadParties
 
 -- and so of each fault of questions
 module _ (P : ScenarioFault → Type 0) (question : (i : ℕ) → P (BadQuestion i)) where
-  in_turn : (kind : Kind) (labels acts : List (List ℕ)) (done : List Asked) (ds : List Data) (e : ScenarioFault)
-      → questions_onto kind labels acts done ds ≡ Err e → P e
-  in_turn kind labels acts done [] e h = absurd cc
-  in_turn kind labels acts done (d ∷ ds) e h =
-      either P (λ asked. questions_onto kind labels acts (done ++ asked ∷ []) ds)
-      (ok_or (question_said kind labels acts (length done) d) (BadQuestion (length done))) e
-      (λ e. missing P (question_said kind labels acts (length done) d) (BadQuestion (length done)) e
-      (question (length done)))
-      (λ asked. in_turn kind labels acts (done ++ asked ∷ []) ds e) h
+  in_turn : (kind : Kind) (names : Nameable) (done : Inquiry) (ds : List Data) (e : ScenarioFault)
+      → questions_onto kind names done ds ≡ Err e → P e
+  in_turn kind names done [] e h = absurd cc
+  in_turn kind names done (d ∷ ds) e h =
+      either P (λ more. questions_onto kind names more ds)
+      (ok_or (question_onto kind names done d) (BadQuestion (length done.asked))) e
+      (λ e. missing P (question_onto kind names done d) (BadQuestion (length done.asked)) e
+      (question (length done.asked)))
+      (λ more. in_turn kind names more ds e) h
 
-  in_list : (kind : Kind) (labels acts : List (List ℕ)) (d : Data) (done : List Asked) (e : ScenarioFault)
-      → list_onto kind labels acts d done ≡ Err e → P e
-  in_list kind labels acts d done e h =
-      either P (questions_onto kind labels acts done)
-      (ok_or (read_or [] items_in (get (key_of kind) d)) (BadQuestion (length done))) e
-      (λ e. missing P (read_or [] items_in (get (key_of kind) d)) (BadQuestion (length done)) e
-      (question (length done)))
-      (λ ds. in_turn kind labels acts done ds e) h
+  in_list : (kind : Kind) (names : Nameable) (d : Data) (done : Inquiry) (e : ScenarioFault)
+      → list_onto kind names d done ≡ Err e → P e
+  in_list kind names d done e h =
+      either P (questions_onto kind names done)
+      (ok_or (read_or [] items_in (get (key_of kind) d)) (BadQuestion (length done.asked))) e
+      (λ e. missing P (read_or [] items_in (get (key_of kind) d)) (BadQuestion (length done.asked)) e
+      (question (length done.asked)))
+      (λ ds. in_turn kind names done ds e) h
 
-  pub of_questions : (labels acts : List (List ℕ)) (d : Data) (e : ScenarioFault)
-      → questions_said labels acts d ≡ Err e → P e
-  of_questions labels acts d e h =
-      either P (λ nevers. ok_and_then (all_of d) (list_onto Sometimes labels acts d nevers))
-      (list_onto Never labels acts d []) e (λ e. in_list Never labels acts d [] e)
-      (λ nevers. either P (all_of d) (list_onto Sometimes labels acts d nevers) e
-      (λ e. in_list Sometimes labels acts d nevers e)
-      (λ done. unless P (is_none (get (codes "always") d)) done (BadQuestion (length done)) e (question (length done))))
-      h
+  pub of_questions : (names : Nameable) (d : Data) (e : ScenarioFault) → questions_said names d ≡ Err e → P e
+  of_questions names d e h =
+      either P (list_onto Always names d)
+      (ok_and_then (list_onto Sometimes names d) (list_onto Never names d (record { asked = []; watches = [] }))) e
+      (λ e. either P (list_onto Sometimes names d) (list_onto Never names d (record { asked = []; watches = [] })) e
+      (λ e. in_list Never names d (record { asked = []; watches = [] }) e)
+      (λ nevers. in_list Sometimes names d nevers e))
+      (λ done. in_list Always names d done e) h
 
 -- a fault of the parties is told without a text
 told_of_parties : (form : Form) (bounds : Bounds) (bytes text : List ℕ) (e : ScenarioFault) → HasBadParties bytes e
@@ -116,7 +116,7 @@ told_of_questions : (form : Form) (bounds : Bounds) (bytes text : List ℕ) (e :
     → text ≡ [] → IsExplorationOf form bounds bytes (Some e) text
 told_of_questions form bounds bytes text e has empty =
     of_questions (λ e. HasBadQuestion bytes e → IsExplorationOf form bounds bytes (Some e) text) (λ i has. (empty, has))
-    has.labels has.acts has.plan.document e has.said has
+    (nameable has.caps has.script has.labels has.acts) has.plan.document e has.said has
 
 pub questions_alone : (form : Form) (bounds : Bounds) (bytes text : List ℕ) (fault : Option ScenarioFault)
     (e : ScenarioFault) → HasBadQuestion bytes e → text ≡ [] → fault ≡ Some e

@@ -16,7 +16,8 @@ use Rattle.dsa_tables.specs.{Lines.{is_in_part}, Naming.{rows_of_act, rows_of_pa
 use Rattle.dsa_tables.specs.Naming.{table_rows, HasNoRowNamed, IsFirstNamed}
 use Rattle.dsa_recordings.specs.Recordings.{recording_text}
 use Rattle.dsa_exploration.specs.{Plan.{IsPlan}, Exploration.{HasBadParties}}
-use Rattle.dsa_exploration.specs.Showing.{HasNoSuchRow, IsSearchOf, IsShown, IsShowingOf}
+use Rattle.dsa_questions.specs.Shown.{calls_question}
+use Rattle.dsa_exploration.specs.Showing.{HasNoSuchRow, IsRowShowingOf, IsSearchOf, IsShown, IsShowingOf}
 use Rattle.dsa_exploration.proofs.Faults.{of_parties}
 
 -- ---- rows of a table
@@ -68,13 +69,14 @@ module _ (bounds : Bounds) (name bytes : List ℕ) where
       → text ≡ [] → fault ≡ Some e → IsShowingOf bounds name bytes fault text
   shown-alone text fault e has empty is =
       rw is (of_parties (λ e. HasBadParties bytes e → IsShowingOf bounds name bytes (Some e) text)
-      (λ has. (empty, has)) (λ has. (empty, has)) (λ i has. (empty, has)) (λ has. (empty, has))
+      (λ has. inl (empty, has)) (λ has. inl (empty, has)) (λ i has. inl (empty, has)) (λ has. inl (empty, has))
       has.caps.engines has.document e has.said has)
 
-  module _ {caps : Caps} {script : Script} {setup : List Event} {labels acts : List (List ℕ)} where
+  module _ {caps : Caps} {script : Script} {setup : List Event} {labels acts : List (List ℕ)}
+      (called : calls_question labels acts name ≡ false) where
     -- no search can begin
-    pub shown-of-setup : (fault : Option ScenarioFault) (text : List ℕ) → IsPlan bytes caps script setup labels acts
-        → CannotBegin caps setup → fault ≡ Some BadSetup → text ≡ [] → IsShowingOf bounds name bytes fault text
+    pub shown-of-setup : (fault : Option ScenarioFault) (text : List ℕ) → IsPlan bytes caps script setup labels acts []
+        → CannotBegin caps setup → fault ≡ Some BadSetup → text ≡ [] → IsRowShowingOf bounds name bytes fault text
     shown-of-setup fault text plan stopped f empty =
         rw f (
           empty,
@@ -85,6 +87,7 @@ module _ (bounds : Bounds) (name bytes : List ℕ) where
             labels = labels;
             acts = acts;
             plan = plan;
+            called = called;
             stopped = stopped;
           },
         )
@@ -94,7 +97,7 @@ module _ (bounds : Bounds) (name bytes : List ℕ) where
       pub none-shown : (fault : Option ScenarioFault) (text : List ℕ)
           → HasNoRowNamed labels acts (table_rows labels acts explored.rows.items) name
           → fault ≡ Some (if explored.is_complete then NoSuchRow else Incomplete) → text ≡ []
-          → IsShowingOf bounds name bytes fault text
+          → IsRowShowingOf bounds name bytes fault text
       none-shown fault text none f empty = rw f (go explored.is_complete refl)
         where
           no-row : (b : Bool) → explored.is_complete ≡ b → HasNoSuchRow bounds name bytes b
@@ -106,12 +109,13 @@ module _ (bounds : Bounds) (name bytes : List ℕ) where
             acts = acts;
             explored = explored;
             search = search;
+            called = called;
             complete = e;
             none = none;
           }
 
           go : (b : Bool) → explored.is_complete ≡ b
-              → IsShowingOf bounds name bytes (Some (if b then NoSuchRow else Incomplete)) text
+              → IsRowShowingOf bounds name bytes (Some (if b then NoSuchRow else Incomplete)) text
           go true e = (empty, no-row true e)
           go false e = (empty, no-row false e)
 
@@ -125,7 +129,7 @@ module _ (bounds : Bounds) (name bytes : List ℕ) where
         -- its document
         pub row-shown : (steps : List Step) (text : List ℕ) (count : ℕ)
             → IsSchedule caps script setup row.steps row.finding steps → count ≡ length steps
-            → text ≡ recording_text caps count steps → IsShowingOf bounds name bytes None text
+            → text ≡ recording_text caps count steps → IsRowShowingOf bounds name bytes None text
         row-shown steps text count schedule c document = record {
           caps = caps;
           script = script;
@@ -134,6 +138,7 @@ module _ (bounds : Bounds) (name bytes : List ℕ) where
           acts = acts;
           explored = explored;
           search = search;
+          called = called;
           row = row;
           named = named;
           steps = steps;

@@ -12,7 +12,8 @@ use Rattle.dsa_plans.specs.Plans.{parties_said}
 use Rattle.dsa_explore.specs.declared.{found.Explored.{Explored}, search.Bounds.{Bounds}}
 use Rattle.dsa_explore.specs.{Bounds.{IsBounded}, Counted.{FoundNothing}, Walked.{IsExplored, CannotBegin, NeedsDepth}}
 use Rattle.dsa_questions.specs.{Lines.{text_with_answers}, Objects.{objects_with_answers}}
-use Rattle.dsa_questions.specs.{Reading.{Asked, questions_said}, Verdicts.{first_broken}}
+use Rattle.dsa_questions.specs.{Answers.{AreAnswers}, Reading.{Inquiry, questions_said}, Stating.{nameable}}
+use Rattle.dsa_questions.specs.Verdicts.{Answer, first_broken}
 use Rattle.dsa_exploration.specs.declared.exploration.Form.{Form, TheVariants.{Table, Json}}
 use Rattle.dsa_exploration.specs.Plan.{IsRunnable, IsPlan}
 
@@ -31,8 +32,8 @@ pub record HasBadQuestion (bytes : List ℕ) (fault : ScenarioFault) : Type 0 wh
   pub setup : List Event
   pub labels : List (List ℕ)
   pub acts : List (List ℕ)
-  pub plan : IsPlan bytes caps script setup labels acts
-  pub said : questions_said labels acts plan.document ≡ Err fault
+  pub plan : IsPlan bytes caps script setup labels acts []
+  pub said : questions_said (nameable caps script labels acts) plan.document ≡ Err fault
 
 -- there is a plan with questions, but no search can begin after its set-up (profile)
 pub record HasBadSetup (bytes : List ℕ) : Type 0 where
@@ -41,9 +42,9 @@ pub record HasBadSetup (bytes : List ℕ) : Type 0 where
   pub setup : List Event
   pub labels : List (List ℕ)
   pub acts : List (List ℕ)
-  pub plan : IsPlan bytes caps script setup labels acts
-  pub questions : List Asked
-  pub asked : questions_said labels acts plan.document ≡ Ok questions
+  pub questions : Inquiry
+  pub plan : IsPlan bytes caps script setup labels acts questions.watches
+  pub asked : questions_said (nameable caps script labels acts) plan.document ≡ Ok questions
   pub stopped : CannotBegin caps setup
 
 -- the fault that is told after a search, by the number of the first broken question, and by whether it is complete
@@ -63,12 +64,12 @@ pub record IsFoundWithin (bounds : Bounds) (caps : Caps) (script : Script) (setu
   pub deep : explored.is_complete ≡ true → NeedsDepth caps script setup explored
 
 -- what a search found and what it says of these questions, in this form (profile)
-abbrev pub search_text_in : Form → List (List ℕ) → List (List ℕ) → List Asked → Explored → List ℕ
-search_text_in Table labels acts questions explored = text_with_answers labels acts questions explored
-search_text_in Json labels acts questions explored = objects_with_answers labels acts questions explored
+abbrev pub search_text_in : Form → List (List ℕ) → List (List ℕ) → List Answer → Explored → List ℕ
+search_text_in Table labels acts answers explored = text_with_answers labels acts answers explored
+search_text_in Json labels acts answers explored = objects_with_answers labels acts answers explored
 
 -- the text is that of a search for these bytes' plan, in this form and within these bounds, with what it says of its
--- document's questions, and this fault is told after it (profile)
+-- document's questions, for which the parties watch, and this fault is told after it (profile)
 pub record IsExploration (form : Form) (bounds : Bounds) (bytes : List ℕ) (fault : Option ScenarioFault) (text : List ℕ)
     : Type 0 where
   pub caps : Caps
@@ -77,12 +78,14 @@ pub record IsExploration (form : Form) (bounds : Bounds) (bytes : List ℕ) (fau
   pub labels : List (List ℕ)
   pub acts : List (List ℕ)
   pub explored : Explored
-  pub plan : IsPlan bytes caps script setup labels acts
-  pub questions : List Asked
-  pub asked : questions_said labels acts plan.document ≡ Ok questions
+  pub questions : Inquiry
+  pub plan : IsPlan bytes caps script setup labels acts questions.watches
+  pub asked : questions_said (nameable caps script labels acts) plan.document ≡ Ok questions
   pub search : IsFoundWithin bounds caps script setup explored
-  pub told : fault ≡ fault_of_search (first_broken questions explored) explored.is_complete
-  pub table : text ≡ search_text_in form labels acts questions explored
+  pub answers : List Answer
+  pub answered : AreAnswers caps script setup explored questions.asked answers
+  pub told : fault ≡ fault_of_search (first_broken answers) explored.is_complete
+  pub table : text ≡ search_text_in form labels acts answers explored
 
 -- this text is made of these bytes in this form and within these bounds, and this fault is told after it (profile)
 abbrev pub IsExplorationOf : Form → Bounds → List ℕ → Option ScenarioFault → List ℕ → Type 0

@@ -1,4 +1,5 @@
 pub mod Plan
 pub mod Exploration
 pub mod Showing
+pub mod Sampling
 pub mod Worked

@@ -8,7 +8,7 @@ use Rattle.dsa_scenario.specs.declared.actions.{Action.{Action}, BadWord.{BadWor
 use Rattle.dsa_scenario.specs.Actions.{action_of}
 use Rattle.dsa_scenario.specs.Document.{head_of, list_of_items, IsJson, IsOpenable}
 use Rattle.dsa_scenario.specs.Run.{event_of}
-use Rattle.dsa_parties.specs.declared.script.Script.{Script}
+use Rattle.dsa_parties.specs.declared.{script.Script.{Script}, watches.Watch.{Watch}}
 use Rattle.dsa_plans.specs.{Plans.{parties_said, tables_of}, PartyLabels.{entry_labels, act_labels}}
 
 -- ---- the set-up
@@ -38,16 +38,17 @@ pub record IsRunnable (bytes : List ℕ) (document : Data) (caps : Caps) (action
   pub asked : map action_of (list_of_items items) ≡ map Some actions
   pub opens : IsOpenable caps capacity
 
--- a plain run of the bytes can begin; its steps are this set-up, its parties have this script and remember nothing, and
+-- a plain run of the bytes can begin; its steps are this set-up, its parties have this script and watch for this, and
 -- their entries and acts have these names (profile)
 pub record IsPlan
     (bytes : List ℕ) (caps : Caps) (script : Script) (setup : List Event) (labels acts : List (List ℕ))
+    (watches : List Watch)
     : Type 0 where
   pub document : Data
   pub actions : List Action
   pub runnable : IsRunnable bytes document caps actions
   pub events : setup ≡ setup_events actions
   pub said : parties_said caps.engines document ≡ Ok (tables_of script)
-  pub no_watches : script.watches.items ≡ []
+  pub watched : script.watches.items ≡ watches
   pub entries_called : option_map entry_labels (get (codes "parties") document) ≡ Some labels
   pub acts_called : option_map act_labels (get (codes "parties") document) ≡ Some acts

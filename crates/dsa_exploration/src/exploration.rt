@@ -4,17 +4,20 @@ ghost use Rattle.std.specs.Prelude.{◌≡◌, ◌⊎◌, [], ℕ, List, Ok, Som
 ghost use Rattle.serde_json.specs.View.{view};
 ghost use Rattle.dsa_scenario.specs.Document.{IsFaultOf, IsJson};
 ghost use Rattle.dsa_event_text.specs.Added.{Adds};
-ghost use Rattle.dsa_questions.specs.Verdicts.{first_broken};
-ghost use Rattle.dsa_questions.specs.Reading.{question_asked, questions_said};
+ghost use Rattle.dsa_plans.specs.Plans.{tables_of};
+ghost use Rattle.dsa_questions.specs.{Reading.{Inquiry, question_asked, questions_said}, Stating.{nameable}};
+ghost use Rattle.dsa_questions.specs.{Told.{as_answer}, Verdicts.{first_broken}};
 ghost use Rattle.dsa_exploration.specs.Plan.{setup_events, IsPlan};
 ghost use Rattle.dsa_exploration.specs.Exploration.{fault_of_search, search_text_in, IsExplorationOf};
 
 use crate::setup::{Beginning, read_beginning, setup_events};
 use dsa_event_text::Added;
-use dsa_explore::{Bounds, Explored, Plan, explore};
+use dsa_explore::{Bounds, Explored, Plan, search_all};
+use dsa_parties::Watch;
 use dsa_plans::{PartyScripts, read_parties};
 use dsa_questions::{
-    Question, add_answered_objects, add_answered_table, first_broken, read_questions,
+    Answered, Naming, Question, add_answered_objects, add_answered_table, answer_all, first_broken,
+    read_questions,
 };
 use dsa_regs::Caps;
 use dsa_scenario::{Action, Render, Rendered, Rendering, ScenarioFault, parse_json};
@@ -58,8 +61,8 @@ pub fn fault_alone(alloc: Global, fault: ScenarioFault) -> Rendering
     }
 }
 
-// What is told of a search, after its text.
-fn fault_of_search(broken: Option<u64>, is_complete: bool) -> Option<ScenarioFault>
+/// What is told of a search, after its text.
+pub fn fault_of_search(broken: Option<u64>, is_complete: bool) -> Option<ScenarioFault>
     ensures { result ≡ fault_of_search broken is_complete }
 {
     match broken {
@@ -75,40 +78,39 @@ fn add_text_in(
     text: &mut String,
     form: Form,
     parties: &PartyScripts,
-    questions: &[Question],
+    answers: &[Answered<'_>],
     explored: &Explored,
 ) -> Added
     ensures { Adds result text.old text.new
         (search_text_in form (map string_bytes parties.now.labels.items)
-        (map string_bytes parties.now.acts.items) (map question_asked questions.now) explored.now) }
+        (map string_bytes parties.now.acts.items) (map as_answer answers.now) explored.now) }
 {
     match form {
-        Form::Table => add_answered_table(text, parties, questions, explored),
-        Form::Json => add_answered_objects(alloc, text, parties, questions, explored),
+        Form::Table => add_answered_table(text, parties, answers, explored),
+        Form::Json => add_answered_objects(alloc, text, parties, answers, explored),
     }
 }
 
 // What is told of a search in this form, with the names that the parties have, and with these
-// questions.
+// answers.
 fn told(
     alloc: Global,
     form: Form,
     parties: &PartyScripts,
-    questions: &[Question],
+    answers: &[Answered<'_>],
     explored: &Explored,
 ) -> Result<Rendering, AllocError>
     ensures text { IfOk result
         (λ r. string_bytes r.text
         ≡ search_text_in form (map string_bytes parties.now.labels.items)
-        (map string_bytes parties.now.acts.items) (map question_asked questions.now) explored.now) }
+        (map string_bytes parties.now.acts.items) (map as_answer answers.now) explored.now) }
     ensures fault { IfOk result
         (λ r. r.fault
-        ≡ fault_of_search (first_broken (map question_asked questions.now) explored.now)
-        explored.now.is_complete) }
+        ≡ fault_of_search (first_broken (map as_answer answers.now)) explored.now.is_complete) }
 {
     let mut text = String::new(alloc);
-    add_text_in(alloc, &mut text, form, parties, questions, explored)?;
-    let fault = fault_of_search(first_broken(questions, explored), explored.is_complete);
+    add_text_in(alloc, &mut text, form, parties, answers, explored)?;
+    let fault = fault_of_search(first_broken(answers), explored.is_complete);
     Ok(Rendering {
         text,
         fault,
@@ -116,7 +118,8 @@ fn told(
     })
 }
 
-// What comes of the parties after these actions.
+// What comes of the parties after these actions, where their script watches for what the questions
+// speak of.
 fn explore_parties(
     alloc: Global,
     caps: Caps,
@@ -128,10 +131,16 @@ fn explore_parties(
     ensures { IfOk result
         (λ r. (bytes : List ℕ)
         (plan : IsPlan bytes caps parties.now.script (setup_events actions.now)
-        (map string_bytes parties.now.labels.items) (map string_bytes parties.now.acts.items))
-        → questions_said (map string_bytes parties.now.labels.items)
-        (map string_bytes parties.now.acts.items) plan.document
-        ≡ Ok (map question_asked questions.now)
+        (map string_bytes parties.now.labels.items) (map string_bytes parties.now.acts.items)
+        parties.now.script.watches.items)
+        → questions_said
+        (nameable caps parties.now.script (map string_bytes parties.now.labels.items)
+        (map string_bytes parties.now.acts.items)) plan.document
+        ≡ Ok
+        (record {
+          asked = map question_asked questions.now;
+          watches = parties.now.script.watches.items;
+        })
         → IsExplorationOf exploring.form exploring.bounds bytes r.fault (string_bytes r.text)) }
 {
     let setup = setup_events(alloc, actions)?;
@@ -140,11 +149,25 @@ fn explore_parties(
         script: &parties.script,
         setup: setup.as_slice(),
     };
-    let Some(explored) = explore(alloc, &plan, exploring.bounds)? else {
+    let Some(searched) = search_all(alloc, &plan, exploring.bounds)? else {
         return Ok(fault_alone(alloc, ScenarioFault::BadSetup));
     };
-    let rendering = told(alloc, exploring.form, parties, questions, &explored)?;
+    let answers = answer_all(alloc, &plan, &searched, questions)?;
+    let explored = &searched.explored;
+    let rendering = told(alloc, exploring.form, parties, answers.as_slice(), explored)?;
     Ok(rendering)
+}
+
+/// The parties, whose script watches for this.
+pub fn watching(parties: PartyScripts, watches: Vec<Watch>) -> PartyScripts
+    ensures labels { result.labels ≡ parties.labels }
+    ensures acts { result.acts ≡ parties.acts }
+    ensures tables { tables_of result.script ≡ tables_of parties.script }
+    ensures watches { result.script.watches ≡ watches }
+{
+    let mut parties = parties;
+    parties.script.watches = watches;
+    parties
 }
 
 // What comes of these parties of a document, which begins so.
@@ -152,27 +175,31 @@ fn explore_begun(
     alloc: Global,
     document: &Value,
     begun: &Beginning,
-    parties: &PartyScripts,
+    parties: PartyScripts,
     exploring: Exploring,
 ) -> Result<Rendering, AllocError>
     ensures { IfOk result
         (λ r. (bytes : List ℕ)
-        (plan : IsPlan bytes begun.now.caps parties.now.script
-        (setup_events begun.now.actions.items) (map string_bytes parties.now.labels.items)
-        (map string_bytes parties.now.acts.items))
+        (plan : IsPlan bytes begun.now.caps parties.script (setup_events begun.now.actions.items)
+        (map string_bytes parties.labels.items) (map string_bytes parties.acts.items) [])
         → plan.document ≡ view document.now
         → IsExplorationOf exploring.form exploring.bounds bytes r.fault (string_bytes r.text)) }
 {
-    let questions = match read_questions(alloc, parties, document) {
+    let naming = Naming {
+        caps: &begun.caps,
+        parties: &parties,
+    };
+    let questions = match read_questions(alloc, &naming, document) {
         Ok(questions) => questions,
         Err(bad) => match bad {
             ScenarioFault::OutOfMemory => return Err(AllocError),
             _ => return Ok(fault_alone(alloc, bad)),
         },
     };
+    let parties = watching(parties, questions.watches);
     let actions = begun.actions.as_slice();
-    let asked = questions.as_slice();
-    let rendering = explore_parties(alloc, begun.caps, actions, parties, asked, exploring)?;
+    let asked = questions.items.as_slice();
+    let rendering = explore_parties(alloc, begun.caps, actions, &parties, asked, exploring)?;
     Ok(rendering)
 }
 
@@ -195,7 +222,7 @@ fn explore_value(alloc: Global, document: &Value, exploring: Exploring) -> Rende
             _ => return Ok(fault_alone(alloc, fault)),
         },
     };
-    let rendering = explore_begun(alloc, document, &begun, &parties, exploring)?;
+    let rendering = explore_begun(alloc, document, &begun, parties, exploring)?;
     Ok(rendering)
 }
 

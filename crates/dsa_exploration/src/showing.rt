@@ -1,16 +1,20 @@
-//! From the bytes of a document to the document of a row of its table.
+//! From the bytes of a document to the document of a row of its table, or of what answers a
+//! question.
 
-ghost use Rattle.std.specs.Prelude.{◌≡◌, ◌⊎◌, ℕ, List, map, string_bytes, IfErr, IfOk, if◌then◌else◌};
+ghost use Rattle.std.specs.Prelude.{◌≡◌, ◌⊎◌, [], ℕ, List, map, string_bytes, false, IfErr, IfOk, if◌then◌else◌};
 ghost use Rattle.serde_json.specs.View.{view};
 ghost use Rattle.dsa_scenario.specs.Document.{IsFaultOf, IsJson};
 ghost use Rattle.dsa_explore.specs.Kept.{KeepsWays};
 ghost use Rattle.dsa_exploration.specs.Plan.{setup_events, IsPlan};
-ghost use Rattle.dsa_exploration.specs.Showing.{IsSearchOf, IsShowingOf};
+ghost use Rattle.dsa_questions.specs.Shown.{calls_question};
+ghost use Rattle.dsa_exploration.specs.Showing.{IsRowShowingOf, IsSearchOf, IsShowingOf};
 
+use crate::answering::answer_begun;
 use crate::exploration::fault_alone;
 use crate::setup::{read_beginning, setup_events};
 use dsa_explore::{Bounds, Plan, Searched, search_all, show};
 use dsa_plans::{PartyScripts, read_parties};
+use dsa_questions::calls_question;
 use dsa_recordings::add_document;
 use dsa_regs::Caps;
 use dsa_scenario::{Action, Render, Rendered, Rendering, ScenarioFault, parse_json};
@@ -18,25 +22,29 @@ use dsa_tables::row_named;
 use serde_json::Value;
 use std::alloc::{AllocError, Global};
 
-/// The steps that show a row of the table of a search, as a scenario document: those of the set-up,
-/// and then as many steps of the parties as the row says, the last of which tells it. Each has its
-/// answer.
+/// The steps that show a row of the table of a search, or what answers a question, as a scenario
+/// document: those of the set-up, and then as many steps of the parties as the table says. The last
+/// of them tells the row, or a row that is asked for, or leads to a state that is asked for. Each
+/// has its answer.
 ///
 /// The row is called by what stands before its steps in the table, as `x0: aborted 10`,
-/// `drain: active`, `drain: waits for x0` or `reset: removes x0`. Where several are called so, it
-/// is the first one.
+/// `drain: active`, `drain: waits for x0` or `reset: removes x0`, and the question by what stands
+/// before the colon, as `never a move is lost`. Where several are called so, it is the first one,
+/// and rows come before questions. Only a question breaks by such steps if it is a `never` or an
+/// `always`, and a `sometimes` is kept by them.
 ///
-/// The faults of [`Exploring`](crate::Exploring) come first. Then `NoSuchRow` is told where a
-/// complete search has no such row, and `Incomplete` where another search has none. With a fault
-/// there is no text.
+/// The faults of [`Exploring`](crate::Exploring) come first, where a row is called those of
+/// questions excepted. Then `NoSuchRow` is told where a complete search has no such row or nothing
+/// that the question asks for, and `Incomplete` where another search has none. With a fault there
+/// is no text.
 #[derive(Clone, Copy, Debug, PartialEq, Eq)]
 pub struct Showing<'a> {
     pub bounds: Bounds,
     pub row: &'a str,
 }
 
-// The fault where no row is called so, by whether the search is complete.
-fn fault_without_row(is_complete: bool) -> ScenarioFault
+/// The fault where there is nothing to show, by whether the search is complete.
+pub fn fault_without_row(is_complete: bool) -> ScenarioFault
     ensures { result ≡ (if is_complete then ScenarioFault.NoSuchRow else ScenarioFault.Incomplete) }
 {
     if is_complete {
@@ -59,8 +67,12 @@ fn show_row(
         → IsSearchOf showing.now.bounds bytes plan.now.caps plan.now.script.now plan.now.setup.now
         (map string_bytes parties.now.labels.items) (map string_bytes parties.now.acts.items)
         searched.now.explored
+        → calls_question (map string_bytes parties.now.labels.items)
+        (map string_bytes parties.now.acts.items) showing.now.row.now
+        ≡ false
         → KeepsWays plan.now.caps plan.now.script.now plan.now.setup.now searched.now
-        → IsShowingOf showing.now.bounds showing.now.row.now bytes r.fault (string_bytes r.text)) }
+        → IsRowShowingOf showing.now.bounds showing.now.row.now bytes r.fault
+        (string_bytes r.text)) }
 {
     let labels = parties.labels.as_slice();
     let acts = parties.acts.as_slice();
@@ -91,8 +103,12 @@ fn show_parties(
     ensures { IfOk result
         (λ r. (bytes : List ℕ)
         → IsPlan bytes caps parties.now.script (setup_events actions.now)
-        (map string_bytes parties.now.labels.items) (map string_bytes parties.now.acts.items)
-        → IsShowingOf showing.now.bounds showing.now.row.now bytes r.fault (string_bytes r.text)) }
+        (map string_bytes parties.now.labels.items) (map string_bytes parties.now.acts.items) []
+        → calls_question (map string_bytes parties.now.labels.items)
+        (map string_bytes parties.now.acts.items) showing.now.row.now
+        ≡ false
+        → IsRowShowingOf showing.now.bounds showing.now.row.now bytes r.fault
+        (string_bytes r.text)) }
 {
     let setup = setup_events(alloc, actions)?;
     let plan = Plan {
@@ -107,7 +123,7 @@ fn show_parties(
     Ok(rendering)
 }
 
-// What shows a row of the parties of a document.
+// What shows a row of the parties of a document, or what answers its question.
 fn show_value(alloc: Global, document: &Value, showing: &Showing<'_>) -> Rendered
     ensures ok { IfOk result
         (λ r. (bytes : List ℕ)
@@ -126,6 +142,10 @@ fn show_value(alloc: Global, document: &Value, showing: &Showing<'_>) -> Rendere
             _ => return Ok(fault_alone(alloc, fault)),
         },
     };
+    if calls_question(alloc, &parties, showing.row)? {
+        let rendering = answer_begun(alloc, document, &begun, parties, showing)?;
+        return Ok(rendering);
+    }
     let actions = begun.actions.as_slice();
     let rendering = show_parties(alloc, begun.caps, actions, &parties, showing)?;
     Ok(rendering)

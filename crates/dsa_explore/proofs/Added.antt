@@ -2,7 +2,7 @@
 use Rattle.std.proofs.Common.{◌≡◌, ℕ, List, [], ◌∷◌, ◌++◌, refl, sym, ap, ◌∙◌, subst, inl, inr, ⊎_elim, map, take}
 use Rattle.std.proofs.Common.{zero, suc, ◌+◌, ◌<◌, length, get_or, arith}
 use Rattle.std.proofs.lemmas.List.{take_more}
-use Rattle.dsa_explore.proofs.Growth.{map-push}
+use Rattle.dsa_explore.proofs.Growth.{In-from, In-mapped, map-push}
 use Rattle.dsa_book.specs.declared.fate.FateRow.{FateRow}
 use Rattle.dsa_keys.specs.Labels.{Labels, labelled_row}
 use Rattle.dsa_base.{specs.Lists.{In}, proofs.Lists.{In-left, In-right, In-push, In-append}}
@@ -103,7 +103,7 @@ added-row steps told labels ends i d finding old mid new below before is here =
 
 -- ---- a loop over rows
 
-In-at : {X : Type 0} (xs : List X) (i : ℕ) (d : X) → i < length xs → In (get_or xs i d) xs
+pub In-at : {X : Type 0} (xs : List X) (i : ℕ) (d : X) → i < length xs → In (get_or xs i d) xs
 In-at [] i d h = absurd (omega (arith, h))
 In-at (x ∷ xs) zero d h = inl refl
 In-at (x ∷ xs) (suc i) d h = inr (In-at xs i d (omega (arith, h)))
@@ -120,3 +120,23 @@ none-more rows i d finding below none here row j same =
     ⊎_elim (λ k. none row k same)
     (λ (e : get_or rows i d ≡ row). here (ap (λ (r : Found). r.finding) e ∙ same))
     (In-push row (take i rows) (get_or rows i d) (subst (λ (l : List Found). In row l) (take_more rows i d below) j))
+
+-- ---- rows of one step
+
+-- the findings of rows that were added to none are told
+pub added-told : (steps : ℕ) (findings : List Finding) (told old new : List Found) → AddsRows 0 findings [] told
+    → AddsRows steps (map (λ (r : Found). r.finding) told) old new → AddsRows steps findings old new
+added-told steps findings told old new a b = record {
+  kept = b.kept;
+  each = λ row i. ⊎_elim (λ j. inl j)
+      (λ p.
+      let r = In-from (λ (r : Found). r.finding) row.finding told p.0 in
+      ⊎_elim (λ (j : In r.0 []). absurd j)
+      (λ q. inr (subst (λ (f : Finding). In f findings) r.1.1 q.0, p.1)) (a.each r.0 r.1.0))
+      (b.each row i);
+  all = λ finding i.
+      let h = a.all finding i in
+      b.all finding (subst (λ (f : Finding). In f (map (λ (r : Found). r.finding) told)) h.same
+      (In-mapped (λ (r : Found). r.finding) h.row told h.within));
+  once = b.once;
+}

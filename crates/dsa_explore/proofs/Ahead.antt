@@ -1,6 +1,6 @@
 -- Stored worlds that are expanded one after the other.
 use Rattle.std.proofs.Common.{◌≡◌, ℕ, zero, suc, ◌+◌, ◌<◌, ◌≤◌, Bool, true, false, List, [], ◌∷◌, Some, refl, sym}
-use Rattle.std.proofs.Common.{ap, ◌∙◌, subst, length, inl, ⊎_elim, arith}
+use Rattle.std.proofs.Common.{ap, ◌∙◌, subst, length, map, inl, ⊎_elim, arith}
 use Rattle.std.specs.Prelude.{slice_get}
 use Rattle.std.proofs.lemmas.{Option.{same_Some}, Bool.{cases_eq}}
 use Rattle.dsa_base.{specs.Lists.{In}, proofs.Lists.{In-length}}
@@ -17,20 +17,12 @@ use Rattle.dsa_explore.specs.Search.{IsExpanded}
 use Rattle.dsa_explore.specs.Search.{queue_taken_from, AreWritten}
 use Rattle.dsa_explore.proofs.Reached.{reached-none}
 use Rattle.dsa_explore.specs.Trying.{IsSearch, HasReached, IsSearched, IsAt, IsThere, AreTried, IsExpandedAt}
+use Rattle.dsa_explore.specs.{Trials.{AreAllFrom, IsAhead}, declared.trials.Trial.{Trial}}
 use Rattle.dsa_explore.specs.Ways.{AreTold, AreRowsTold}
-use Rattle.dsa_explore.proofs.Growth.{In-get, get-at, get-below, get-mapped, own-key, table-on, rows-on}
-use Rattle.dsa_explore.proofs.Tables.{other-keys, expanded-more, all-tried, whole-closed}
+use Rattle.dsa_explore.proofs.Growth.{In-get, In-mapped, get-at, get-below, get-mapped, own-key, table-on, rows-on}
+use Rattle.dsa_explore.proofs.Tables.{expanded-more, whole-closed}
 use Rattle.dsa_explore.proofs.Whole.{In-place, all-found, rows-found, whole-of}
 use Rattle.dsa_explore.proofs.Counted.{keys-of-all, keys-of-some, deep-of-all, walk-stored}
-
--- the worlds below this number were expanded
-pub record IsAhead {P : Type 0} (space : Space P Move) (first : World P) (search : Search) (number : ℕ) : Type 0 where
-  pub table : List (Stored P)
-  pub is_search : IsSearch space first search table
-  pub expanded : (i : ℕ) (x : Stored P) → i < number → slice_get table i ≡ Some x
-      → IsExpanded space.parties space.asks table search.rows.items (x.level + 1) x.world
-  pub front : (x : Stored P) → slice_get table number ≡ Some x → search.front ≤ x.level + 1
-  pub behind : (i : ℕ) (x : Stored P) → i < number → slice_get table i ≡ Some x → x.level < search.front
 
 module _ {P : Type 0} (space : Space P Move) (lawful : IsLawfulSpace space)
     (byte-keys : (w v : World P) → HaveEqualKeys w v → space.bytes_of w ≡ space.bytes_of v) (first : World P) where
@@ -69,46 +61,46 @@ module _ {P : Type 0} (space : Space P Move) (lawful : IsLawfulSpace space)
         front = front ∙ ap (λ n. n + 1) (sym level);
       }
 
-  -- where all that is listed was tried, the world was expanded
-  pub tried-all : (old mid new : Search) (table : List (Stored P)) (number : ℕ) (x : Stored P) (v : World P)
-      (tries : List Try) → IsAt space first mid table number x → mid.rows ≡ old.rows → IsThere space x v
-      → ((w : World P) (move : Move) (reply : Reply) → world_after space.parties v move reply ≡ Some w
-      → In (record { by = move; queue = queue_taken_from reply }) tries)
-      → AreTried space first mid table number x tries new → IsExpandedAt space first old table number x new
-  tried-all old mid new table number x v tries is same there covers tried =
-      let fine = (is.is_search.table_is.worlds x (In-get table number x is.at)).fine in
-      record {
-        more = tried.more;
-        is_search = tried.further.is_at.is_search;
-        front = tried.further.is_at.front;
-        worlds = tried.further.worlds;
-        kept = tried.further.kept;
-        rows = λ row i. tried.further.rows row
-            (subst (λ (r : List Found). In row r) (sym (ap (λ r. r.items) same)) i);
-        expanded = all-tried space.caps space.parties space.asks space.good lawful.lawful tried.more new.rows.items
-            (x.level + 1) x.world v (λ move queue. In (record { by = move; queue = queue }) tries) fine.good
-            there.fine.good (other-keys v x.world there.keys) covers
-            (λ move queue i. tried.tried (record { by = move; queue = queue }) i);
-      }
+  -- where each step that may come was tried, the world was expanded
+  pub tried-all : (old mid new : Search) (table : List (Stored P)) (number : ℕ) (x : Stored P) (trials : List Trial)
+      → mid.rows ≡ old.rows → AreAllFrom space x.world trials
+      → AreTried space first mid table number x (map (λ (t : Trial). t.tried) trials) new
+      → IsExpandedAt space first old table number x new
+  tried-all old mid new table number x trials same all tried = record {
+    more = tried.more;
+    is_search = tried.further.is_at.is_search;
+    front = tried.further.is_at.front;
+    worlds = tried.further.worlds;
+    kept = tried.further.kept;
+    rows = λ row i. tried.further.rows row
+        (subst (λ (r : List Found). In row r) (sym (ap (λ r. r.items) same)) i);
+    expanded = λ v move reply step.
+        let h = all v move reply step in
+        tried.tried (record { by = move; queue = queue_taken_from reply })
+        (subst (λ (t : Try). In t (map (λ (t : Trial). t.tried) trials)) h.is
+        (In-mapped (λ (t : Trial). t.tried) h.trial trials h.within)) v reply step refl;
+  }
 
   -- ---- all worlds
 
   pub ahead-none : (search : Search) (table : List (Stored P)) → IsSearch space first search table
-      → search.front ≡ 0 → IsAhead space first search 0
+      → search.front ≡ 0 → IsAhead space first table search 0
   ahead-none search table is front = record {
-    table = table;
+    more = table;
     is_search = is;
+    worlds = λ i y here. here;
     expanded = λ i x below. absurd (omega (arith, below));
     front = λ x at. omega (arith, front);
     behind = λ i x below. absurd (omega (arith, below));
   }
 
-  pub ahead-more : (old new : Search) (number : ℕ) (x : Stored P) → (a : IsAhead space first old number)
-      → slice_get a.table number ≡ Some x → IsExpandedAt space first old a.table number x new
-      → IsAhead space first new (number + 1)
-  ahead-more old new number x a at e = record {
-    table = e.more;
+  pub ahead-more : (table : List (Stored P)) (old new : Search) (number : ℕ) (x : Stored P)
+      → (a : IsAhead space first table old number) → slice_get a.more number ≡ Some x
+      → IsExpandedAt space first old a.more number x new → IsAhead space first table new (number + 1)
+  ahead-more table old new number x a at e = record {
+    more = e.more;
     is_search = e.is_search;
+    worlds = λ i y here. e.worlds i y (a.worlds i y here);
     expanded = λ i y below here. ⊎_elim
         (λ (same : i ≡ number).
         let is : x ≡ y = same_Some x y
@@ -117,11 +109,11 @@ module _ {P : Type 0} (space : Space P Move) (lawful : IsLawfulSpace space)
         IsExpanded space.parties space.asks e.more new.rows.items (z.level + 1) z.world) is e.expanded)
         (λ other.
         let low : i < number = omega (arith, below, other) in
-        let z = get-at a.table i (omega (arith, low, get-below a.table number x at)) in
+        let z = get-at a.more i (omega (arith, low, get-below a.more number x at)) in
         let is : z.0 ≡ y = same_Some z.0 y (sym (e.worlds i z.0 z.1) ∙ here) in
         subst (λ (z : Stored P).
         IsExpanded space.parties space.asks e.more new.rows.items (z.level + 1) z.world) is
-        (expanded-more space.asks a.table e.more old.rows.items new.rows.items e.kept e.rows space.parties
+        (expanded-more space.asks a.more e.more old.rows.items new.rows.items e.kept e.rows space.parties
         (z.0.level + 1) z.0.world (a.expanded i z.0 low z.1)))
         (cases_eq i number);
     front = λ y at'.
@@ -133,60 +125,88 @@ module _ {P : Type 0} (space : Space P Move) (lawful : IsLawfulSpace space)
   }
 
   -- below the number of worlds there is one to expand
-  pub ahead-next : (search : Search) (number : ℕ) → (a : IsAhead space first search number)
-      → number < length search.seen.strings → (x : Stored P) × (slice_get a.table number ≡ Some x)
-  ahead-next search number a below =
-      get-at a.table number (omega (arith, below, a.is_search.table_is.count))
+  pub ahead-next : (table : List (Stored P)) (search : Search) (number : ℕ)
+      → (a : IsAhead space first table search number) → number < length table
+      → (x : Stored P) × ((slice_get table number ≡ Some x) × (slice_get a.more number ≡ Some x))
+  ahead-next table search number a below =
+      let x = get-at table number below in
+      (x.0, (x.1, a.worlds number x.0 x.1))
+
+  -- later the same worlds are stored still
+  pub ahead-on : (table : List (Stored P)) (old new : Search) (number further : ℕ)
+      → (a : IsAhead space first table old number) → IsAhead space first a.more new further
+      → IsAhead space first table new further
+  ahead-on table old new number further a b = record {
+    more = b.more;
+    is_search = b.is_search;
+    worlds = λ i y here. b.worlds i y (a.worlds i y here);
+    expanded = b.expanded;
+    front = b.front;
+    behind = b.behind;
+  }
+
+  -- a search stands where it has come to
+  pub ahead-here : (table : List (Stored P)) (search : Search) (number : ℕ)
+      → (a : IsAhead space first table search number) → IsAhead space first a.more search number
+  ahead-here table search number a = record {
+    more = a.more;
+    is_search = a.is_search;
+    worlds = λ i y here. here;
+    expanded = a.expanded;
+    front = a.front;
+    behind = a.behind;
+  }
 
   has-some : (search : Search) (table : List (Stored P)) → IsSearch space first search table
       → 0 < length search.seen.strings
   has-some search table is = omega (arith, is.table_is.count, In-length _ table is.table_is.begin)
 
   -- at the end all that may come is found
-  pub ahead-all : (search : Search) (number : ℕ) → IsFine space first → IsAhead space first search number
-      → length search.seen.strings ≤ number → IsSearched space first search true
-  ahead-all search number fine a enough =
+  pub ahead-all : (table : List (Stored P)) (search : Search) (number : ℕ) → IsFine space first
+      → IsAhead space first table search number → length search.seen.strings ≤ number
+      → IsSearched space first search true
+  ahead-all table search number fine a enough =
       let is = a.is_search in
       let whole = whole-of space lawful first search.seen.strings (node_levels search) search.front number
-      search.rows.items a.table is.table_is enough a.expanded in
+      search.rows.items a.more is.table_is enough a.expanded in
       record {
         findings = all-found space lawful first search.seen.strings (node_levels search) search.front number
-            search.rows.items a.table fine is.table_is is.rows_are enough a.expanded;
+            search.rows.items a.more fine is.table_is is.rows_are enough a.expanded;
         keys = keys-of-all space lawful byte-keys first search.seen.strings (node_levels search) search.front
-            (last_level (node_levels search)) a.table is.table_is is.written is.within fine
-            (whole-closed space.caps space.parties space.asks space.good lawful.lawful a.table search.rows.items whole);
-        some = has-some search a.table is;
+            (last_level (node_levels search)) a.more is.table_is is.written is.within fine
+            (whole-closed space.caps space.parties space.asks space.good lawful.lawful a.more search.rows.items whole);
+        some = has-some search a.more is;
         deep = λ e once. deep-of-all space lawful byte-keys first search.seen.strings (node_levels search) search.front
-            (last_level (node_levels search)) a.table is.table_is is.written is.within fine
-            (whole-closed space.caps space.parties space.asks space.good lawful.lawful a.table search.rows.items whole)
-            (has-some search a.table is) once;
+            (last_level (node_levels search)) a.more is.table_is is.written is.within fine
+            (whole-closed space.caps space.parties space.asks space.good lawful.lawful a.more search.rows.items whole)
+            (has-some search a.more is) once;
       }
 
   -- and all worlds to which moves lead are stored, as soon as they do
-  pub ahead-reached : (search : Search) (number : ℕ) → IsFine space first → IsAhead space first search number
-      → length search.seen.strings ≤ number → HasReached space first search
-  ahead-reached search number fine a enough =
+  pub ahead-reached : (table : List (Stored P)) (search : Search) (number : ℕ) → IsFine space first
+      → IsAhead space first table search number → length search.seen.strings ≤ number → HasReached space first search
+  ahead-reached table search number fine a enough =
       let is = a.is_search in
       let whole = whole-of space lawful first search.seen.strings (node_levels search) search.front number
-      search.rows.items a.table is.table_is enough a.expanded in
-      let begin : IsStored a.table 0 first = record {
+      search.rows.items a.more is.table_is enough a.expanded in
+      let begin : IsStored a.more 0 first = record {
         at = record { level = 0; world = first };
         within = is.table_is.begin;
         soon = omega arith;
         keys = record { places = refl; keys = refl };
       } in
       record {
-        table = a.table;
+        table = a.more;
         is_search = is;
         all = λ steps w r.
             let count : 0 + length r.moves ≡ steps = omega (arith, r.count) in
-            subst (λ n. IsStored a.table n w) count
-            (walk-stored space.caps space.parties space.good lawful.lawful a.table
-            (whole-closed space.caps space.parties space.asks space.good lawful.lawful a.table search.rows.items whole)
+            subst (λ n. IsStored a.more n w) count
+            (walk-stored space.caps space.parties space.good lawful.lawful a.more
+            (whole-closed space.caps space.parties space.asks space.good lawful.lawful a.more search.rows.items whole)
             first 0 r.moves w fine.good begin r.leads);
         behind = λ x i.
-            let p = In-place x a.table i in
-            a.behind p.0 x (omega (arith, get-below a.table p.0 x p.1, is.table_is.count, enough)) p.1;
+            let p = In-place x a.more i in
+            a.behind p.0 x (omega (arith, get-below a.more p.0 x p.1, is.table_is.count, enough)) p.1;
       }
 
   -- a search that halts has rows that may come

@@ -53,6 +53,25 @@ pub map-push : {X Y : Type 0} (f : X → Y) (xs : List X) (x : X) → map f (xs 
 map-push f [] x = refl
 map-push f (y ∷ ys) x = ap (λ z. f y ∷ z) (map-push f ys x)
 
+pub In-mapped : {X Y : Type 0} (f : X → Y) (x : X) (xs : List X) → In x xs → In (f x) (map f xs)
+In-mapped f x [] i = absurd i
+In-mapped f x (y ∷ ys) (inl e) = inl (ap f e)
+In-mapped f x (y ∷ ys) (inr i) = inr (In-mapped f x ys i)
+
+-- what is listed of a list is so of one of it
+pub In-from : {X Y : Type 0} (f : X → Y) (y : Y) (xs : List X) → In y (map f xs) → (x : X) × (In x xs × (f x ≡ y))
+In-from f y [] i = absurd i
+In-from f y (x ∷ xs) (inl e) = (x, (inl refl, e))
+In-from f y (x ∷ xs) (inr i) = let r = In-from f y xs i in (r.0, (inr r.1.0, r.1.1))
+
+-- a place of two lists is one of the first or of the second
+pub get-append : {X : Type 0} (xs ys : List X) (i : ℕ) (x : X) → slice_get (xs ++ ys) i ≡ Some x
+    → (slice_get xs i ≡ Some x) ⊎ ((j : ℕ) × ((i ≡ length xs + j) × (slice_get ys j ≡ Some x)))
+get-append [] ys i x h = inr (i, (omega arith, h))
+get-append (z ∷ xs) ys zero x h = inl h
+get-append (z ∷ xs) ys (suc i) x h =
+    ⊎_elim (λ e. inl e) (λ p. inr (p.0, (omega (arith, p.1.0), p.1.1))) (get-append xs ys i x h)
+
 -- ---- worlds
 
 -- a place of a list is one of each longer list

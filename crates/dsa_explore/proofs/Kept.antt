@@ -1,20 +1,20 @@
 -- The ways that a search keeps, and steps that tell the findings of its rows.
-use Rattle.std.proofs.Common.{◌≡◌, ℕ, ◌+◌, ◌≤◌, ◌^◌, List, [], Option, Some, None, IfSome, IfNone, Bool, true, false, not, is_some, refl, sym, ap, ◌∙◌}
+use Rattle.std.proofs.Common.{◌≡◌, ℕ, ◌+◌, ◌≤◌, ◌^◌, List, [], Option, Some, None, IfSome, IfNone, Bool, true, false, not, is_none, is_some, refl, sym, ap, ◌∙◌}
 use Rattle.std.proofs.Common.{subst, length, arith}
 use Rattle.std.specs.{Option.{option_eq}, Prelude.{eqb}}
 use Rattle.std.proofs.lemmas.Bool.{eqb-false}
 use Rattle.dsa_base.specs.Lists.{In}
 use Rattle.dsa_regs.specs.declared.Caps.{Caps}
 use Rattle.dsa_book.specs.declared.{answer.Reply.{Reply}, event.Event.{Event}}
-use Rattle.dsa_keys.specs.Parties.{World, Stored, HaveEqualKeys, world_after}
+use Rattle.dsa_keys.specs.Parties.{World, Stored, HaveEqualKeys, IsStored, world_after}
 use Rattle.dsa_keys.proofs.Parties.{worlds-answer}
 use Rattle.dsa_parties.specs.{declared.{places.Move.{Move}, script.Script.{Script}}, Standing.{Standing}}
 use Rattle.dsa_explore.specs.declared.found.{Finding.{Finding}, Found.{Found}}
 use Rattle.dsa_explore.specs.declared.{halting.Halt.{Halt}, search.Searched.{Searched}}
 use Rattle.dsa_explore.specs.declared.stored.{Node.{Node}, Search.{Search}, Try.{Try}}
-use Rattle.dsa_explore.specs.{Findings.{findings_of}, Search.{Space, IsFine, IsLawfulSpace, queue_taken_from}}
+use Rattle.dsa_explore.specs.{Findings.{findings_of}, Search.{Space, IsFine, IsLawfulSpace, IsReached, queue_taken_from}}
 use Rattle.dsa_explore.specs.{Halting.{IsHalted}, Kept.{KeepsWays}, Trying.{IsSearch, HasReached}}
-use Rattle.dsa_explore.specs.{Walked.{space_of, IsFirst}, Ways.{IsTellingStep, TellWays, AreRowsTold}}
+use Rattle.dsa_explore.specs.{Walked.{space_of, IsFirst}, Ways.{IsTellingStep, TellWays, AreByLevel, AreRowsTold}}
 use Rattle.dsa_explore.proofs.{Steps.{findings-agree, mirrored-findings}, Tables.{from-queue, queues-agree}}
 use Rattle.dsa_explore.proofs.Ways.{tell-ways}
 
@@ -31,6 +31,11 @@ other-level o a b is same differ = go (eqb a b) refl
     go : (c : Bool) → eqb a b ≡ c → not c ≡ true → ⊥
     go true e d = let clash : false ≡ true = d in absurd cc
     go false e d = eqb-false a b e same
+
+-- each world that can be reached is stored
+abbrev HoldsAll : {P : Type 0} → Space P Move → World P → List (Stored P) → Type 0
+HoldsAll {P} space first table = (steps : ℕ) (w : World P) → IsReached space.parties first steps w
+    → IsStored table steps w
 
 module _ {P : Type 0} (space : Space P Move) (lawful : IsLawfulSpace space) where
   -- what a try tells from one world it tells from each with its key
@@ -65,9 +70,12 @@ module _ {P : Type 0} (space : Space P Move) (lawful : IsLawfulSpace space) wher
   pub as-stored : (first : World P) (search : Search) (set_up : ℕ) (halted : Option Halt) {N : Type 0}
       {S : Halt → Type 0} → IfNone halted N → IfSome halted S → (N → HasReached space first search)
       → ((halt : Halt) → S halt → IsHalted space first set_up search halt)
-      → (table : List (Stored P)) × IsSearch space first search table
-  as-stored first search set_up None whole stops f g = let r = f whole in (r.table, r.is_search)
-  as-stored first search set_up (Some halt) whole stops f g = let h = g halt stops in (h.table, h.is_search)
+      → (table : List (Stored P))
+      × (IsSearch space first search table × (is_none halted ≡ true → HoldsAll space first table))
+  as-stored first search set_up None whole stops f g = let r = f whole in (r.table, (r.is_search, λ e. r.all))
+  as-stored first search set_up (Some halt) whole stops f g =
+      let h = g halt stops in
+      (h.table, (h.is_search, λ (e : false ≡ true). absurd cc))
 
 module _ (caps : Caps) (script : Script) (setup : List Event) (first : World Standing)
     (begun : IsFirst caps script setup first) (search : Search) (searched : Searched)
@@ -76,8 +84,10 @@ module _ (caps : Caps) (script : Script) (setup : List Event) (first : World Sta
     (rows : searched.explored.rows.items ≡ search.rows.items) where
   -- a search keeps the ways to its rows
   pub keeps-ways : (table : List (Stored Standing)) → IsSearch (space_of caps script) first search table
-      → length setup + search.front ≤ 2 ^ 20 → KeepsWays caps script setup searched
-  keeps-ways table is early = record {
+      → length setup + search.front ≤ 2 ^ 20
+      → (searched.explored.is_complete ≡ true → HoldsAll (space_of caps script) first table)
+      → KeepsWays caps script setup searched
+  keeps-ways table is early all = record {
     first = first;
     begun = begun;
     table = table;
@@ -85,14 +95,21 @@ module _ (caps : Caps) (script : Script) (setup : List Event) (first : World Sta
     ways = subst (λ (n : List Node). TellWays (space_of caps script) first n table) (sym nodes)
         (tell-ways (space_of caps script) first search table is);
     told = subst (λ (r : List Found). AreRowsTold (space_of caps script) table r) (sym rows) is.rows_told;
+    worlds = λ x i. (is.table_is.worlds x i).reached;
+    by_level = is.by_level;
+    all = all;
+    early = λ x i.
+        let low = is.table_is.low x i in
+        omega (arith, low, early);
     room = λ row i.
         let soon = is.rows_are.early row (subst (λ (r : List Found). In row r) rows i) in
         omega (arith, soon, early);
   }
 
   -- a search that stored nothing has none
-  pub keeps-none : search.seen.strings ≡ [] → search.rows.items ≡ [] → KeepsWays caps script setup searched
-  keeps-none none no-rows = record {
+  pub keeps-none : search.seen.strings ≡ [] → search.rows.items ≡ [] → searched.explored.is_complete ≡ false
+      → KeepsWays caps script setup searched
+  keeps-none none no-rows incomplete = record {
     first = first;
     begun = begun;
     table = [];
@@ -104,5 +121,9 @@ module _ (caps : Caps) (script : Script) (setup : List Event) (first : World Sta
       told = λ i node x here at. absurd cc;
     };
     told = λ row i. absurd (subst (λ (r : List Found). In row r) (rows ∙ no-rows) i);
+    worlds = λ x i. absurd i;
+    by_level = record { rising = λ i j x y low at at'. absurd cc; early = λ i x at. absurd cc };
+    all = λ complete. let clash : false ≡ true = sym incomplete ∙ complete in absurd cc;
+    early = λ x i. absurd i;
     room = λ row i. absurd (subst (λ (r : List Found). In row r) (rows ∙ no-rows) i);
   }

@@ -10,6 +10,7 @@ pub mod Equal
 pub mod Noted
 pub mod Lawful
 pub mod Ahead
+pub mod Tried
 pub mod Made
 pub mod Covers
 pub mod KeysApart
@@ -24,3 +25,6 @@ pub mod Kept
 pub mod Ready
 pub mod Bounded
 pub mod Endings
+pub mod Merged
+pub mod WalkSteps
+pub mod Tallies

@@ -3,7 +3,7 @@ use Rattle.std.proofs.Common.{◌≡◌, ℕ, ◌+◌, ◌<◌, List, [], ◌∷
 use Rattle.std.proofs.Common.{◌==◌, ◌^◌, ◌≤◌, Bool, true, false, get_or, map, take, subst, length, length-append}
 use Rattle.std.proofs.Common.{inl, inr, ⊎_elim, arith, Contains}
 use Rattle.std.specs.Prelude.{slice_get, unwrap_or, ◌-◌}
-use Rattle.dsa_base.{specs.Lists.{In}, proofs.Lists.{In-left, In-push}}
+use Rattle.dsa_base.{specs.Lists.{In}, proofs.Lists.{In-left, In-push, In-append}}
 use Rattle.dsa_book.specs.declared.answer.Reply.{Reply}
 use Rattle.dsa_keys.specs.Parties.{World, Stored, HaveEqualKeys, IsStored, world_after}
 use Rattle.dsa_parties.specs.declared.places.Move.{Move}
@@ -474,13 +474,23 @@ module _ {P : Type 0} (space : Space P Move) (first : World P) where
     tried = λ t i. absurd i;
   }
 
-  -- one more
-  pub tried-more : (old mid new : Search) (table : List (Stored P)) (number : ℕ) (x : Stored P) (tries : List Try)
-      (i : ℕ) (d try : Try) (w : World P) (back : Bool) → i < length tries → try ≡ get_or tries i d
-      → (t : AreTried space first old table number x (take i tries) mid)
-      → IsAttempted space first mid t.more number x try new w back
-      → AreTried space first old table number x (take (i + 1) tries) new
-  tried-more old mid new table number x tries i d try w back below is t a = record {
+  pub tried-one : (old new : Search) (table : List (Stored P)) (number : ℕ) (x : Stored P) (try : Try) (w : World P)
+      (back : Bool) → IsAttempted space first old table number x try new w back
+      → AreTried space first old table number x (try ∷ []) new
+  tried-one old new table number x try w back a = record {
+    more = a.more;
+    further = a.further;
+    tried = λ other i. ⊎_elim (λ (e : try ≡ other). subst (λ (z : Try).
+        IsTriedBy space.parties space.asks a.more new.rows.items (x.level + 1) x.world z.by z.queue) e a.tried)
+        (λ j. absurd j) i;
+  }
+
+  -- these, and then those
+  pub tried-both : (old mid new : Search) (table : List (Stored P)) (number : ℕ) (x : Stored P) (tries others : List Try)
+      → (t : AreTried space first old table number x tries mid)
+      → AreTried space first mid t.more number x others new
+      → AreTried space first old table number x (tries ++ others) new
+  tried-both old mid new table number x tries others t a = record {
     more = a.more;
     further = record {
       is_at = a.further.is_at;
@@ -491,8 +501,5 @@ module _ {P : Type 0} (space : Space P Move) (first : World P) where
     tried = λ other j. ⊎_elim
         (λ k. λ v' reply step from. noted-more space.asks t.more a.more mid.rows.items new.rows.items a.further.kept
         a.further.rows (x.level + 1) x.world other.by reply v' (t.tried other k v' reply step from))
-        (λ (e : get_or tries i d ≡ other). subst (λ (z : Try).
-        IsTriedBy space.parties space.asks a.more new.rows.items (x.level + 1) x.world z.by z.queue) (is ∙ e) a.tried)
-        (In-push other (take i tries) (get_or tries i d)
-        (subst (λ (l : List Try). In other l) (take_more tries i d below) j));
+        (λ k. a.tried other k) (In-append other tries others j);
   }

@@ -16,7 +16,7 @@ use Rattle.dsa_parties.specs.declared.{places.Move.{Move}, script.Script.{Script
 use Rattle.dsa_parties.specs.{Standing.{Standing, stand_of, standing_first}, Offers.{parties_of}}
 use Rattle.dsa_explore.specs.declared.{found.{Ask.{Ask}, Finding.{Finding}, Found.{Found}}, walked.Walked.{Walked}}
 use Rattle.dsa_explore.specs.{Findings.{findings_told}, Rows.{AddsRows, HasFinding, labels_of}, Walked.{world_of}}
-use Rattle.dsa_explore.specs.Schedules.{event_of_move, step_of_move, steps_of_moves, schedule_events, IsSetUp, IsSchedule}
+use Rattle.dsa_explore.specs.Schedules.{event_of_move, step_of_move, steps_of_moves, schedule_events, IsSetUp, IsSchedule, IsScheduleTo}
 use Rattle.dsa_explore.specs.Schedules.{schedule_moves, IsMadeBy, IsToldBy, IsEventKept}
 use Rattle.dsa_explore.proofs.{Growth.{map-push}, Reached.{walk-more}}
 
@@ -207,6 +207,48 @@ module _ (caps : Caps) (script : Script) (setup : List Event) (capacity : ℕ) w
     s.comes.count,
   )
 
+  -- so has each move that leads to a world
+  pub schedule-to-length : (count : ℕ) (world : World Standing) (steps : List Step)
+      → IsScheduleTo caps script setup count world steps → length steps ≡ length setup + count
+  schedule-to-length count world steps s = omega (
+    arith,
+    ap length s.parts,
+    length-append s.begun s.more,
+    begun-length s.begun s.first s.set_up,
+    steps-count (parties_of script) s.first s.moves s.more s.made,
+    s.count_is,
+  )
+
+  module _ (count : ℕ) (steps : List Step) (walked : Walked)
+      (kept : IsEventKept caps script setup capacity count steps walked) where
+    -- there are as many steps as events of the set-up and moves
+    kept-length : length steps ≡ length setup + count
+    kept-length = omega (
+      arith,
+      ap length kept.parts,
+      length-append kept.begun kept.more,
+      begun-length kept.begun kept.first kept.set_up,
+      steps-count (parties_of script) kept.first kept.moves kept.more kept.made,
+      kept.count_is,
+    )
+
+    -- the steps of a device that has room for them alone lead to where it is
+    pub scheduled-to : capacity ≡ length setup + count
+        → IsScheduleTo caps script setup count (world_of walked) steps
+    scheduled-to room = record {
+      allowed = subst (λ (n : ℕ). is_run caps n steps ≡ true) (room ∙ sym kept-length)
+          (subst (λ (l : List Step). is_run caps capacity l ≡ true) (sym kept.run.added) kept.run.allowed);
+      begun = kept.begun;
+      more = kept.more;
+      parts = kept.parts;
+      first = kept.first;
+      set_up = kept.set_up;
+      moves = kept.moves;
+      count_is = kept.count_is;
+      leads = kept.leads;
+      made = kept.made;
+    }
+
   module _ (count : ℕ) (steps : List Step) (walked walked' : Walked) (move : Move)
       (kept : IsEventKept caps script setup capacity count steps walked) (replay : IsReplay walked.machine.device) where
     module _ (step : Step) (told : IsMadeBy script walked walked' move step) where
@@ -246,17 +288,6 @@ module _ (caps : Caps) (script : Script) (setup : List Event) (capacity : ℕ) w
         made = made-more;
       }
 
-    -- there are as many steps as events of the set-up and moves
-    kept-length : length steps ≡ length setup + count
-    kept-length = omega (
-      arith,
-      ap length kept.parts,
-      length-append kept.begun kept.more,
-      begun-length kept.begun kept.first kept.set_up,
-      steps-count (parties_of script) kept.first kept.moves kept.more kept.made,
-      kept.count_is,
-    )
-
     -- where the last step tells a finding, all of them show it
     pub scheduled : (finding : Finding) (step : Step) → IsToldBy script walked walked' move finding step
         → (capacity < 2 ^ 64 - 1 → capacity ≡ length setup + (count + 1))
@@ -268,7 +299,7 @@ module _ (caps : Caps) (script : Script) (setup : List Event) (capacity : ℕ) w
           arith,
           room (omega (arith, replay.bounded, held)),
           length-append steps (step ∷ []),
-          kept-length,
+          kept-length count steps walked kept,
         )
         in
         record {

@@ -14,6 +14,7 @@ pub mod Walked
 pub mod Schedules
 pub mod Ready
 pub mod Tries
+pub mod Trials
 pub mod WorkedSearch
 pub mod WorkedSetup
 pub mod Asks
@@ -21,3 +22,5 @@ pub mod Ends
 pub mod WorkedEnds
 pub mod WorkedFound
 pub mod WorkedSchedules
+pub mod Sampling
+pub mod Walking

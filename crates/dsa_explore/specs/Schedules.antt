@@ -67,6 +67,21 @@ pub record IsSchedule (caps : Caps) (script : Script) (setup : List Event) (coun
   pub comes : MayCome (parties_of script) (ask_of script) first count finding
   pub made : steps_of_moves (parties_of script) first (schedule_moves comes) ≡ Some more
 
+-- the steps are a run of a device that has room for all of them. First come those of the set-up, and then as many as
+-- this number says, which the parties make: they lead to this world
+pub record IsScheduleTo (caps : Caps) (script : Script) (setup : List Event) (count : ℕ) (world : World Standing)
+    (steps : List Step) : Type 0 where
+  pub allowed : is_run caps (length steps) steps ≡ true
+  pub begun : List Step
+  pub more : List Step
+  pub parts : steps ≡ begun ++ more
+  pub first : World Standing
+  pub set_up : IsSetUp caps script setup begun first
+  pub moves : List (Made Move)
+  pub count_is : length moves ≡ count
+  pub leads : world_after_all (parties_of script) first moves ≡ Some world
+  pub made : steps_of_moves (parties_of script) first moves ≡ Some more
+
 -- ---- devices whose steps are kept
 
 -- a move was made on a device by this step

@@ -3,6 +3,8 @@
 #![tactic(auto)]
 
 mod awaited;
+mod choices;
+mod crews;
 pub mod ending_rows;
 mod ends;
 mod expanding;
@@ -12,18 +14,27 @@ mod halting;
 mod keys;
 pub mod laws;
 mod making;
+mod merging;
 mod rows;
 mod running;
+mod sampling;
 pub mod schedules;
 mod search;
 mod showing;
 mod stored;
+mod trials;
 mod tries;
 mod trying;
+mod visiting;
 mod walked;
+mod walking;
 pub mod worked;
 
+pub use crews::{Alone, Crew};
 pub use found::{Ask, Ending, Explored, Finding, Found};
-pub use search::{Bounds, Searched, explore, search_all};
+pub use rows::label_of;
+pub use sampling::{Sampled, Walks, sample};
+pub use search::{Bounds, Searched, explore, search_all, search_by};
 pub use showing::show;
-pub use walked::Plan;
+pub use visiting::{Visited, visit};
+pub use walked::{Plan, Walked, ask_of};

@@ -98,8 +98,8 @@ fn ending_told(labels: &[u32], row: &FateRow) -> Finding
     }
 }
 
-// Whether this row has the finding.
-fn is_row_of(row: &Found, finding: &Finding) -> bool
+/// Whether this row has the finding.
+pub fn is_row_of(row: &Found, finding: &Finding) -> bool
     ensures same { result ≡ true → row.now.finding ≡ finding.now }
     ensures other { result ≡ false → row.now.finding ≡ finding.now → ⊥ }
 {
@@ -231,5 +231,16 @@ pub fn add_findings(rows: &mut Vec<Found>, told: &Told<'_>, steps: u32) -> Resul
     add_ends(rows, told.labels, told.ends, steps)?;
     add_waits(rows, told.ask, told.awaited, steps)?;
     add_removals(rows, told.labels, told.ask, told.ends, steps)?;
+    Ok(())
+}
+
+/// Adds rows with the findings of these, and so many steps.
+pub fn add_all(rows: &mut Vec<Found>, told: &[Found], steps: u32) -> Result<(), AllocError>
+    ensures { OnOk result
+        (AddsRows steps (map (λ row. row.finding) told.now) rows.old.items rows.new.items) }
+{
+    for row in told {
+        add_finding(rows, row.finding, steps)?;
+    }
     Ok(())
 }

@@ -9,12 +9,14 @@ ghost use Rattle.dsa_book.specs.declared.answer.Reply.TheVariants as reply;
 ghost use Rattle.dsa_book.specs.declared.event.Event.{Event};
 ghost use Rattle.dsa_book.specs.declared.event.Event.TheVariants as event;
 ghost use Rattle.dsa_book.specs.declared.event.Step.{Step};
+ghost use Rattle.dsa_keys.specs.Parties.{World};
 ghost use Rattle.dsa_parties.specs.declared.script.Script.{Script};
+ghost use Rattle.dsa_parties.specs.Standing.{Standing};
 ghost use Rattle.dsa_explore.specs.declared.found.Ask.TheVariants.{Act};
 ghost use Rattle.dsa_explore.specs.declared.found.Finding.{Finding};
 ghost use Rattle.dsa_explore.specs.declared.found.Finding.TheVariants.{Answer, Wait};
 ghost use Rattle.dsa_explore.specs.Ends.{LeadsNowhere};
-ghost use Rattle.dsa_explore.specs.Schedules.{event_of_move, schedule_events, steps_of_moves, IsSchedule};
+ghost use Rattle.dsa_explore.specs.Schedules.{event_of_move, schedule_events, steps_of_moves, IsSchedule, IsScheduleTo};
 ghost use Rattle.dsa_explore.specs.Trying.{HasRoomBehind};
 ghost use Rattle.dsa_explore.specs.Walked.{space_of};
 ghost use Rattle.dsa_explore.specs.Ways.{IsRowTold, IsTellingStep};
@@ -25,9 +27,13 @@ ghost use Rattle.dsa_explore.specs.WorkedSchedules.{poll_from, polled_row, polli
 
 /// There are as many steps as events of the set-up, and as the number says.
 pub fn schedules_have_a_length()
-    ensures { (caps : Caps) (script : Script) (setup : List Event) (count : ℕ) (finding : Finding)
-        (steps : List Step)
+    ensures findings { (caps : Caps) (script : Script) (setup : List Event) (count : ℕ)
+        (finding : Finding) (steps : List Step)
         → IsSchedule caps script setup count finding steps
+        → length steps ≡ length setup + count }
+    ensures worlds { (caps : Caps) (script : Script) (setup : List Event) (count : ℕ)
+        (world : World Standing) (steps : List Step)
+        → IsScheduleTo caps script setup count world steps
         → length steps ≡ length setup + count }
 {}
 
@@ -64,6 +70,29 @@ pub fn of_polls()
     ensures first_left_out { (memory : Global)
         → ¬ IsSchedule uneven_caps (polling_script memory) (schedule_events opened_steps) 1
         (Answer (Act 0) (reply.Poll poll.Nothing)) (drop 1 polled_steps) }
+{}
+
+/// The set-up leads to where the administrator begins, and with a poll to where it is through. The
+/// set-up alone does not lead there. Steps without the first one of the set-up lead nowhere.
+pub fn to_worlds()
+    ensures set_up { (memory : Global)
+        → IsScheduleTo uneven_caps (polling_script memory) (schedule_events opened_steps) 0
+        (polling_world memory) opened_steps }
+    ensures through { (memory : Global)
+        → (world : World Standing)
+        × (IsScheduleTo uneven_caps (polling_script memory) (schedule_events opened_steps) 1 world
+        polled_steps × (world.places.administrators ≡ 1 ∷ [])) }
+    ensures not_yet { (memory : Global) (world : World Standing)
+        → IsScheduleTo uneven_caps (polling_script memory) (schedule_events opened_steps) 0 world
+        opened_steps
+        → world.places.administrators ≡ 1 ∷ []
+        → ⊥ }
+    ensures too_long { (memory : Global) (world : World Standing)
+        → ¬ IsScheduleTo uneven_caps (polling_script memory) (schedule_events opened_steps) 1
+        world (polled_steps ++ polled ∷ []) }
+    ensures first_left_out { (memory : Global) (world : World Standing)
+        → ¬ IsScheduleTo uneven_caps (polling_script memory) (schedule_events opened_steps) 1
+        world (drop 1 polled_steps) }
 {}
 
 /// A poll tells its answer, and takes from no queue. The row with the answer has one step more than

@@ -14,6 +14,7 @@ ghost use Rattle.dsa_explore.specs.Kept.{KeepsWays};
 ghost use Rattle.dsa_explore.specs.Trying.{HasRoomBehind, IsSearch};
 ghost use Rattle.dsa_explore.specs.Walked.{CannotBegin, IsExplored, IsFirst, NeedsDepth, space_of, world_of};
 
+use crate::crews::{Alone, Crew};
 use crate::ends::endings_of;
 use crate::expanding::expand_all;
 use crate::found::{Ending, Explored};
@@ -171,13 +172,16 @@ fn ends_of(
 /// steps as the depth fill a history. If there is no room for the first state, the search finds
 /// nothing.
 ///
+/// The crew makes the tries. What is found does not depend on it.
+///
 /// [`show`](crate::show) finds the steps of each row again.
 ///
 /// `None` if no device can be made with these capabilities, or the set-up lets an entry come in.
-pub fn search_all(
+pub fn search_by<C: Crew>(
     alloc: Global,
     plan: &Plan<'_>,
     bounds: Bounds,
+    crew: &C,
 ) -> Result<Option<Searched>, AllocError>
     ensures explored { IfOk result
         (λ found. IfSome found (λ searched. IsExplored plan.now.caps plan.now.script.now
@@ -208,10 +212,40 @@ pub fn search_all(
     if !store_first(&mut search, &walked, &mut key)? {
         return Ok(Some(ended(search, false, None)));
     }
-    let halted = expand_all(alloc, plan, &mut search, bounds.states, &mut key)?;
+    let halted = expand_all(alloc, plan, &mut search, bounds, crew)?;
     let is_complete = halted.is_none();
     let ends = ends_of(alloc, plan, &search, is_complete, &mut key)?;
     Ok(Some(ended(search, is_complete, ends)))
+}
+
+/// The same search, by this thread alone.
+pub fn search_all(
+    alloc: Global,
+    plan: &Plan<'_>,
+    bounds: Bounds,
+) -> Result<Option<Searched>, AllocError>
+    ensures explored { IfOk result
+        (λ found. IfSome found (λ searched. IsExplored plan.now.caps plan.now.script.now
+        plan.now.setup.now searched.explored)) }
+    ensures states { IfOk result
+        (λ found. IfSome found (λ searched. searched.explored.states ≤ bounds.states)) }
+    ensures bounded { IfOk result
+        (λ found. IfSome found (λ searched. searched.explored.is_complete ≡ false
+        → IsBounded bounds plan.now.caps plan.now.script.now plan.now.setup.now
+        searched.explored)) }
+    ensures depth { IfOk result
+        (λ found. IfSome found (λ searched. searched.explored.is_complete ≡ true
+        → NeedsDepth plan.now.caps plan.now.script.now plan.now.setup.now searched.explored)) }
+    ensures nothing { IfOk result
+        (λ found. IfSome found
+        (λ searched. searched.explored.states ≡ 0 → FoundNothing searched.explored)) }
+    ensures ways { IfOk result
+        (λ found. IfSome found (λ searched. KeepsWays plan.now.caps plan.now.script.now
+        plan.now.setup.now searched)) }
+    ensures none { IfOk result
+        (λ found. IfNone found (CannotBegin plan.now.caps plan.now.setup.now)) }
+{
+    search_by(alloc, plan, bounds, &Alone)
 }
 
 /// The same search, without the ways to its states.

@@ -1,6 +1,6 @@
 //! The steps that show a row.
 
-ghost use Rattle.std.specs.Prelude.{◌≡◌, ◌+◌, ◌-◌, ◌<◌, ◌≤◌, ◌^◌, length, List, Some, option_map, slice_get, true, false, IfOk, IfSome, IfNone};
+ghost use Rattle.std.specs.Prelude.{◌≡◌, ◌+◌, ◌-◌, ◌<◌, ◌≤◌, ◌^◌, length, min, List, Some, option_map, slice_get, true, false, IfOk, IfSome, IfNone};
 ghost use Rattle.dsa_base.specs.Lists.{In};
 ghost use Rattle.dsa_keys.specs.Parties.{World, Stored};
 ghost use Rattle.dsa_parties.specs.Standing.{Standing};
@@ -85,13 +85,19 @@ fn make_telling(
     Ok(Some(step))
 }
 
+/// For how many steps a device needs room: the set-up, and these tries.
+pub fn room_to_lead(plan: &Plan<'_>, path: &[Try]) -> u64
+    ensures { result ≡ min (2 ^ 64 - 1) (length plan.now.setup.now + length path.now) }
+{
+    (plan.setup.len() as u64).saturating_add(path.len() as u64)
+}
+
 // For how many steps a device needs room: the set-up, these tries, and one more.
 fn room_to_show(plan: &Plan<'_>, path: &[Try]) -> u64
     ensures all { result < 2 ^ 64 - 1 → result ≡ length plan.now.setup.now + (length path.now + 1) }
     ensures most { result ≤ length plan.now.setup.now + (length path.now + 1) }
 {
-    let steps = (plan.setup.len() as u64).saturating_add(path.len() as u64);
-    steps.saturating_add(1)
+    room_to_lead(plan, path).saturating_add(1)
 }
 
 // The steps of the set-up, of these tries and of a last one, if that tells the finding.
@@ -159,8 +165,8 @@ fn show_after(
     Ok(None)
 }
 
-// The level of the stored world of this number.
-fn level_of(nodes: &[Node], number: u32) -> Option<u32>
+/// The level of the stored world of this number.
+pub fn level_of(nodes: &[Node], number: u32) -> Option<u32>
     ensures { result ≡ option_map (λ (node : Node). node.level) (slice_get nodes.now number) }
 {
     nodes.get(number as usize).map(|node| node.level)

@@ -1,13 +1,12 @@
 //! The worlds that a search stored, by their keys, and the rows that it found.
 
-ghost use Rattle.std.specs.Prelude.{◌≡◌, IfOk, IfErr, OnOk};
-ghost use Rattle.dsa_explore.specs.Findings.{findings_told};
-ghost use Rattle.dsa_explore.specs.Rows.{AddsRows, labels_of};
+ghost use Rattle.std.specs.Prelude.{◌≡◌, IfOk, IfErr, OnOk, map};
+ghost use Rattle.dsa_explore.specs.Rows.{AddsRows};
 ghost use Rattle.dsa_explore.specs.Stored.{IsStoredAt, IsUnstored};
 
 use crate::found::Found;
 use crate::halting::Halt;
-use crate::rows::{Told, add_findings};
+use crate::rows::add_all;
 use dsa_parties::Move;
 use dsa_seen::{Inserted, Seen};
 use std::alloc::AllocError;
@@ -74,7 +73,7 @@ fn store(
 /// Adds what a step told, and stores where it led to, or says why that does not fit.
 pub fn note(
     search: &mut Search,
-    told: &Told<'_>,
+    told: &[Found],
     key: &[u8],
     parent: u32,
     tried: Try,
@@ -86,12 +85,11 @@ pub fn note(
     ensures most { OnOk result (search.new.seen.most ≡ search.old.seen.most) }
     ensures width { OnOk result (search.new.seen.width ≡ search.old.seen.width) }
     ensures rows { OnOk result
-        (AddsRows search.old.front
-        (findings_told told.now.ask (labels_of told.now.labels.now) told.now.reply told.now.ends.now
-        told.now.awaited.now) search.old.rows.items search.new.rows.items) }
+        (AddsRows search.old.front (map (λ row. row.finding) told.now) search.old.rows.items
+        search.new.rows.items) }
     ensures front { OnOk result (search.new.front ≡ search.old.front) }
 {
-    add_findings(&mut search.rows, told, search.front)?;
+    add_all(&mut search.rows, told, search.front)?;
     search.tried = search.tried.saturating_add(1);
     store(search, key, parent, tried)
 }

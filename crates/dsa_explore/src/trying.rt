@@ -1,4 +1,4 @@
-//! The tries from one stored world.
+//! Devices that come to stored worlds.
 
 ghost use Rattle.std.specs.Prelude.{◌≡◌, ℕ, ◌+◌, ◌^◌, ◌≤◌, ◌<◌, min, length, List, Some, IfOk, IfErr, IfSome, IfNone, OnOk};
 ghost use Rattle.std.specs.Prelude.{◌==◌, nat_lt, slice_get, true, false, drop, reverse};
@@ -85,8 +85,8 @@ pub fn path_to(alloc: Global, nodes: &[Node], number: u32) -> Result<Option<Vec<
     Ok(None)
 }
 
-// A history with room for the set-up, for these tries and for some more, as far as there may be.
-fn room_for(plan: &Plan<'_>, path: &[Try]) -> u64
+/// A history with room for the set-up, for these tries and for some more, as far as there may be.
+pub fn room_for(plan: &Plan<'_>, path: &[Try]) -> u64
     ensures { result ≡ min (2 ^ 20) (length plan.now.setup.now + length path.now + 16) }
 {
     let steps = (plan.setup.len() as u64).saturating_add(path.len() as u64);
@@ -173,8 +173,8 @@ pub fn go_to(
     Ok(found)
 }
 
-// The same try, which takes an entry from the queue that the reply tells, or from none.
-fn as_taken(tried: Try, reply: Reply) -> Try
+/// The same try, which takes an entry from the queue that the reply tells, or from none.
+pub fn as_taken(tried: Try, reply: Reply) -> Try
     ensures by { result.by ≡ tried.by }
     ensures queue { result.queue ≡ queue_taken_from reply }
 {
@@ -183,68 +183,6 @@ fn as_taken(tried: Try, reply: Reply) -> Try
         _ => None,
     };
     Try { queue, ..tried }
-}
-
-// Tries one step from the stored world of this number, on a device where the parties stand as
-// there. True where it led back there. What cannot be made leads nowhere.
-fn attempt(
-    alloc: Global,
-    plan: &Plan<'_>,
-    search: &mut Search,
-    walked: &mut Walked,
-    number: u32,
-    tried: Try,
-    key: &mut Key,
-) -> Result<Result<bool, Halt>, AllocError>
-    ensures step { IfOk result
-        (λ led. IfOk led (λ back. (first : World Standing)
-        → (table : List (Stored Standing))
-        → (x : Stored Standing)
-        → IsAt (space_of plan.now.caps plan.now.script.now) first search.old table number x
-        → IsThere (space_of plan.now.caps plan.now.script.now) x (world_of walked.old)
-        → HasLabels walked.old
-        → is_filled walked.old.machine.device ≡ false
-        → IsAttempted (space_of plan.now.caps plan.now.script.now) first search.old table number x
-        tried search.new (world_of walked.new) back)) }
-    ensures labels { IfOk result
-        (λ led. IfOk led (λ back. back ≡ true → HasLabels walked.old → HasLabels walked.new)) }
-    ensures halted { IfOk result
-        (λ led. IfErr led (λ halt. (first : World Standing)
-        → (table : List (Stored Standing))
-        → (x : Stored Standing)
-        → IsAt (space_of plan.now.caps plan.now.script.now) first search.old table number x
-        → IsThere (space_of plan.now.caps plan.now.script.now) x (world_of walked.old)
-        → key.old.line.capacity ≡ search.old.seen.width
-        → IsHalted (space_of plan.now.caps plan.now.script.now) first (length plan.now.setup.now)
-        search.new halt)) }
-    ensures most { OnOk result (search.new.seen.most ≡ search.old.seen.most) }
-    ensures width { OnOk result (search.new.seen.width ≡ search.old.seen.width) }
-    ensures front { OnOk result (search.new.front ≡ search.old.front) }
-    ensures room { OnOk result (key.new.line.capacity ≡ key.old.line.capacity) }
-{
-    let ask = ask_of(plan, walked, tried.by);
-    let before = walked.machine.device.fates().len();
-    let Some(reply) = make(alloc, plan, walked, tried)? else {
-        return Ok(Ok(false));
-    };
-    if !write_world(walked, key)? {
-        return Ok(Err(Halt::KeyBytes));
-    }
-    let ends = ends_since(walked, before);
-    let labels = walked.labels.as_slice();
-    let awaited = labels_waited_for(alloc, &walked.machine.device, labels, reply)?;
-    let told = Told {
-        labels,
-        ask,
-        reply,
-        ends,
-        awaited: awaited.as_slice(),
-    };
-    let taken = as_taken(tried, reply);
-    match note(search, &told, key.bytes.as_slice(), number, taken)? {
-        Ok(at) => Ok(Ok(at == number)),
-        Err(halt) => Ok(Err(halt)),
-    }
 }
 
 /// The device, if the parties stand there as in the stored world of this number and its history has
@@ -294,57 +232,4 @@ pub fn come(
         return Ok(Err(Halt::Steps));
     }
     Ok(Ok(again))
-}
-
-/// Makes all these tries from the stored world of this number, or says why the search halts.
-pub fn try_all(
-    alloc: Global,
-    plan: &Plan<'_>,
-    search: &mut Search,
-    at_first: Box<Walked>,
-    number: u32,
-    tries: &[Try],
-    key: &mut Key,
-) -> Result<Option<Halt>, AllocError>
-    ensures steps { IfOk result
-        (λ halted. IfNone halted ((first : World Standing)
-        → (table : List (Stored Standing))
-        → (x : Stored Standing)
-        → IsFirst plan.now.caps plan.now.script.now plan.now.setup.now first
-        → IsAt (space_of plan.now.caps plan.now.script.now) first search.old table number x
-        → IsThere (space_of plan.now.caps plan.now.script.now) x (world_of at_first.value)
-        → HasLabels at_first.value
-        → AreTried (space_of plan.now.caps plan.now.script.now) first search.old table number x
-        tries.now search.new)) }
-    ensures halted { IfOk result
-        (λ halted. IfSome halted (λ halt. (first : World Standing)
-        → (table : List (Stored Standing))
-        → (x : Stored Standing)
-        → IsFirst plan.now.caps plan.now.script.now plan.now.setup.now first
-        → IsAt (space_of plan.now.caps plan.now.script.now) first search.old table number x
-        → IsThere (space_of plan.now.caps plan.now.script.now) x (world_of at_first.value)
-        → HasLabels at_first.value
-        → key.old.line.capacity ≡ search.old.seen.width
-        → IsHalted (space_of plan.now.caps plan.now.script.now) first (length plan.now.setup.now)
-        search.new halt)) }
-    ensures most { OnOk result (search.new.seen.most ≡ search.old.seen.most) }
-    ensures width { OnOk result (search.new.seen.width ≡ search.old.seen.width) }
-    ensures front { OnOk result (search.new.front ≡ search.old.front) }
-    ensures room { OnOk result (key.new.line.capacity ≡ key.old.line.capacity) }
-{
-    let mut walked = at_first;
-    let mut is_there = true;
-    for tried in tries {
-        let mut here = match come(alloc, plan, search, walked, is_there, number)? {
-            Ok(here) => here,
-            Err(halt) => return Ok(Some(halt)),
-        };
-        let back = match attempt(alloc, plan, search, &mut here, number, *tried, key)? {
-            Ok(back) => back,
-            Err(halt) => return Ok(Some(halt)),
-        };
-        walked = here;
-        is_there = back;
-    }
-    Ok(None)
 }

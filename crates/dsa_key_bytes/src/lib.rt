@@ -10,8 +10,6 @@ mod laws;
 mod line;
 mod parts;
 pub mod rows;
-#[cfg(test)]
-mod tests;
 mod writing;
 
 pub use laws::{equal_bytes_are_equal_keys, equal_changes_are_equal_keys};

@@ -43,8 +43,8 @@ fn is_unconditional(step: &Value) -> bool
     step.get("when").is_none() && step.get("if").is_none()
 }
 
-// An administrator's step.
-fn act_said(step: &Value) -> Option<Act>
+/// What an administrator does by a step, if it can be read.
+pub fn act_said(step: &Value) -> Option<Act>
     ensures { result ≡ act_said (view step.now) }
 {
     if !is_unconditional(step) {

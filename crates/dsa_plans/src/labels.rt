@@ -14,8 +14,8 @@ use dsa_named::own_text;
 use serde_json::Value;
 use std::alloc::{AllocError, Global};
 
-// The items of the array at the key, or none.
-fn items_or<'v>(object: &'v Value, key: &str) -> &'v [Value]
+/// The items of the array at the key, or none.
+pub fn items_or<'v>(object: &'v Value, key: &str) -> &'v [Value]
     ensures { map view result.now ≡ items_or key.now (view object.now) }
 {
     match object.get(key) {

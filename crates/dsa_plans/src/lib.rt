@@ -13,4 +13,8 @@ pub mod rows;
 mod said;
 mod submitters;
 
-pub use plans::{PartyScripts, read_parties};
+pub use acting::act_said;
+pub use labels::items_or;
+pub use plans::{PartyScripts, engine_in, read_parties};
+pub use said::{busy_at, digits_at, items_or_none, outcomes_at, retry_at, until_at};
+pub use submitters::{add_step, member_said, members_wanted};

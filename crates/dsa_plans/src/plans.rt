@@ -41,8 +41,8 @@ pub struct Lists<'v> {
     pub engines: Vec<u16>,
 }
 
-// The number of an engine, which the device has.
-fn engine_in(count: u16, value: &Value) -> Option<u16>
+/// The number of an engine, which the device has.
+pub fn engine_in(count: u16, value: &Value) -> Option<u16>
     ensures { result ≡ whole_below count (view value.now) }
 {
     let number = value.as_u64()?;

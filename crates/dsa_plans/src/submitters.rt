@@ -56,8 +56,8 @@ fn member_bytes(member: &Value) -> Option<[u8; 64]>
     }
 }
 
-// A member of the batch with this label.
-fn member_said(batch: u32, outcomes: Outcomes, member: &Value) -> Option<ScriptEntry>
+/// A member of the batch with this label.
+pub fn member_said(batch: u32, outcomes: Outcomes, member: &Value) -> Option<ScriptEntry>
     ensures { result ≡ member_said batch outcomes (view member.now) }
 {
     let bytes = member_bytes(member)?;
@@ -125,8 +125,8 @@ fn submission_of_step(members: u32, step: &Value) -> Option<Submission>
     })
 }
 
-// How many members there have to be.
-fn members_wanted(desc: Descriptor) -> u32
+/// How many members there have to be.
+pub fn members_wanted(desc: Descriptor) -> u32
     ensures { result ≡ members_wanted desc }
 {
     if desc.is_batch() { desc.size } else { 0 }
@@ -175,8 +175,8 @@ fn client_step(step: &Value) -> Option<ClientStep<'_>>
     step_with(&bytes, count, members, step)
 }
 
-// Adds the entry of a step and its members, and says whether all can be read.
-fn add_step(entries: &mut Vec<ScriptEntry>, step: &Value) -> Result<bool, AllocError>
+/// Adds the entry of a step and its members, and says whether all can be read.
+pub fn add_step(entries: &mut Vec<ScriptEntry>, step: &Value) -> Result<bool, AllocError>
     ensures { IfOk result (λ good. when good entries.new.items
         ≡ step_onto entries.old.items (view step.now)) }
 {

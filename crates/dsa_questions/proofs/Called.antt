@@ -8,7 +8,7 @@ use Rattle.std.specs.declared.alloc.Global.{Global}
 use Rattle.serde_json.specs.declared.value.Value.{Value}
 use Rattle.serde_json.specs.{Data.{Data}, Find.{as_object}, View.{members_of, members_view, view}}
 use Rattle.dsa_base.specs.Rows.{passes}
-use Rattle.dsa_questions.specs.Reading.{count_of_members, has_keys, number_called}
+use Rattle.dsa_questions.specs.Conditions.{count_of_members, has_keys, number_called}
 
 pub any_called : {X Y : Type 0} (f : X → Y) (p : Y → Bool) (xs : List X)
     → list_any (λ x. p (f x)) xs ≡ list_any p (map f xs)

@@ -1,3 +1,10 @@
 pub mod Called
 pub mod Fewest
 pub mod Outlooks
+pub mod Meeting
+pub mod Wanted
+pub mod Nested
+pub mod Meaning
+pub mod Judged
+pub mod Soonest
+pub mod FirstAsked

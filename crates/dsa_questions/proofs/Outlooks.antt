@@ -10,12 +10,12 @@ use Rattle.dsa_questions.specs.{Asked.{is_row_asked}, Orders.{ComesWith, NeverCo
 use Rattle.dsa_questions.proofs.Fewest.{IsOne, none-of, one-of, least-of}
 
 -- what was counted, where this is said
-with-some : (b : Bool) (least : Option ℕ) (steps : ℕ) → comes_by b least ≡ With steps → least ≡ Some steps
+pub with-some : (b : Bool) (least : Option ℕ) (steps : ℕ) → comes_by b least ≡ With steps → least ≡ Some steps
 with-some b (Some n) steps e = let same : n ≡ steps = cc in ap Some same
 with-some true None steps e = absurd cc
 with-some false None steps e = absurd cc
 
-in-none : (b : Bool) (least : Option ℕ) → comes_by b least ≡ InNoOrder → (b ≡ true) × (least ≡ None)
+pub in-none : (b : Bool) (least : Option ℕ) → comes_by b least ≡ InNoOrder → (b ≡ true) × (least ≡ None)
 in-none b (Some n) e = absurd cc
 in-none true None e = (refl, refl)
 in-none false None e = absurd cc

@@ -1,8 +1,17 @@
 pub mod Asked
 pub mod Words
+pub mod Conditions
+pub mod Stating
+pub mod Formed
+pub mod Meaning
 pub mod Reading
+pub mod Judging
 pub mod Verdicts
+pub mod Told
+pub mod Answers
+pub mod Shown
 pub mod Orders
 pub mod Lines
 pub mod Objects
 pub mod Worked
+pub mod Samples

@@ -5,7 +5,7 @@ use Rattle.dsa_explore.specs.declared.found.Explored.{Explored}
 use Rattle.dsa_tables.specs.Objects.{body_objects, search_object}
 use Rattle.dsa_questions.specs.declared.question.Kind.{Kind}
 use Rattle.dsa_questions.specs.declared.verdicts.Outlook.{Outlook, TheVariants.{With}}
-use Rattle.dsa_questions.specs.{Lines.{verdict_words}, Reading.{Asked, key_of}, Verdicts.{outlook_of}}
+use Rattle.dsa_questions.specs.{Lines.{verdict_words}, Reading.{key_of}, Verdicts.{Answer}}
 
 -- the fewest steps, where it comes
 abbrev pub steps_member : Outlook → List ℕ
@@ -22,16 +22,16 @@ abbrev pub verdict_members : Kind → Outlook → List ℕ
 verdict_members kind outlook = verdict_words kind outlook ++ codes "\"" ++ steps_member outlook ++ codes "}\n"
 
 -- a question
-unfoldable pub question_object : Explored → Asked → List ℕ
-question_object explored question = question_members question.kind question.name
-    ++ verdict_members question.kind (outlook_of question.conditions explored)
+unfoldable pub question_object : Answer → List ℕ
+question_object answer =
+    question_members answer.kind answer.name ++ verdict_members answer.kind answer.outlook
 
 -- all questions (profile)
-abbrev pub question_objects : List Asked → Explored → List ℕ
-question_objects questions explored = flat_map (question_object explored) questions
+abbrev pub question_objects : List Answer → List ℕ
+question_objects answers = flat_map question_object answers
 
 -- what a search found, with these names of labels and of acts, then these questions, and then how far it came (profile)
-abbrev pub objects_with_answers : List (List ℕ) → List (List ℕ) → List Asked → Explored → List ℕ
-objects_with_answers labels acts questions explored =
-    body_objects labels acts explored ++ question_objects questions explored
+abbrev pub objects_with_answers : List (List ℕ) → List (List ℕ) → List Answer → Explored → List ℕ
+objects_with_answers labels acts answers explored =
+    body_objects labels acts explored ++ question_objects answers
     ++ search_object explored.states explored.tried explored.depth explored.is_complete

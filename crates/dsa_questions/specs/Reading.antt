@@ -1,89 +1,52 @@
 -- The questions of a document.
-use Rattle.std.specs.Prelude.{◌==◌, ℕ, suc, ◌+◌, Bool, cond, List, [], ◌∷◌, ◌++◌, length, drop, position, codes}
-use Rattle.std.specs.Prelude.{bytes_eq, decimal, string_bytes, is_none, is_some}
-use Rattle.std.specs.Prelude.{Option, Some, None, option_map, ok_or, Result, Ok, Err}
-use Rattle.std.specs.List.{list_any}
-use Rattle.serde_json.specs.Data.{Data, Members, no_members, member}
-use Rattle.serde_json.specs.Find.{get, as_object, as_str}
-use Rattle.dsa_base.specs.Rows.{passes}
+use Rattle.std.specs.Prelude.{◌==◌, ℕ, suc, ◌+◌, Bool, cond, List, [], ◌∷◌, ◌++◌, length, drop, map, position, codes}
+use Rattle.std.specs.Prelude.{bytes_eq, decimal, string_bytes, is_some}
+use Rattle.std.specs.Prelude.{Option, Some, None, option_map, ok_or, Result, Ok}
+use Rattle.serde_json.specs.{Data.{Data}, Find.{get, as_str}}
+use Rattle.dsa_parties.specs.declared.watches.Watch.{Watch}
+use Rattle.dsa_formulas.specs.declared.formula.Term.{Term, TheVariants.{Not}}
 use Rattle.dsa_scenario.specs.declared.faults.ScenarioFault.{ScenarioFault, TheVariants.{BadQuestion}}
-use Rattle.dsa_scenario.specs.Fields.{◌>>=◌, text_of}
-use Rattle.dsa_plans.specs.{Said.{items_in, read_or, each_onto, read_onto}, Plans.{ok_and_then}}
-use Rattle.dsa_questions.specs.declared.question.Condition.{Condition, TheVariants.{Entry, Act, Wait, Removal}}
-use Rattle.dsa_questions.specs.declared.question.Kind.{Kind, TheVariants.{Never, Sometimes}}
-use Rattle.dsa_questions.specs.declared.question.Question.{Question}
-use Rattle.dsa_questions.specs.Words.{became_called, replied_called, is_name}
+use Rattle.dsa_scenario.specs.Fields.{◌>>=◌}
+use Rattle.dsa_plans.specs.{Said.{items_in, read_or}, Plans.{ok_and_then}}
+use Rattle.dsa_questions.specs.declared.question.{Condition.{Condition}, Question.{Question}, Questions.{Questions}}
+use Rattle.dsa_questions.specs.declared.question.Kind.{Kind, TheVariants.{Never, Sometimes, Always}}
+use Rattle.dsa_questions.specs.declared.question.Sought.{Sought, TheVariants.{Rows, States}}
+use Rattle.dsa_questions.specs.{Conditions.{conditions_said, has_keys}, Words.{is_name}}
+use Rattle.dsa_questions.specs.Stating.{Nameable, FormulaSoFar, formula_onto}
+
+-- what a question asks for: rows of the table, or states
+pub data Wanted : Type 0 where
+  rows : List Condition → Wanted
+  states : List Term → Wanted
 
 -- a question as it is read
 pub record Asked : Type 0 where
   pub kind : Kind
   pub name : List ℕ
-  pub conditions : List Condition
+  pub wanted : Wanted
 
--- that of a value of the program
+-- all questions, and what their formulas watch for
+pub record Inquiry : Type 0 where
+  pub asked : List Asked
+  pub watches : List Watch
+
+-- those of values of the program
+abbrev pub wanted_said : Sought → Wanted
+wanted_said (Rows conditions) = rows conditions.items
+wanted_said (States terms) = states terms.items
+
 abbrev pub question_asked : Question → Asked
 question_asked question = record {
   kind = question.kind;
   name = string_bytes question.name;
-  conditions = question.conditions.items;
+  wanted = wanted_said question.sought;
 }
 
--- ---- labels
-
--- the number of the one label that is this text; a text that several have is nobody's
-abbrev pub number_called : List (List ℕ) → List ℕ → Option ℕ
-number_called labels text = do
-  first ← position (λ label. bytes_eq label text) labels
-  cond (list_any (λ label. bytes_eq label text) (drop (first + 1) labels)) None (Some first)
-
--- that of the text at the key
-abbrev pub place_number : List (List ℕ) → List ℕ → Data → Option ℕ
-place_number labels key d = text_of key d >>= number_called labels
-
--- ---- conditions
-
--- how many keys an object has
-abbrev pub count_of_members : Members → ℕ
-count_of_members no_members = 0
-count_of_members (member key d members) = suc (count_of_members members)
-
--- an object with so many keys
-abbrev pub has_keys : ℕ → Data → Bool
-has_keys count d = passes (λ members. count_of_members members == count) (as_object d)
-
--- what becomes of an entry
-abbrev pub entry_said : List (List ℕ) → Data → Option Condition
-entry_said labels d = do
-  label ← place_number labels (codes "entry") d
-  word ← text_of (codes "is") d
-  became ← became_called word
-  Some (Entry label became)
-
--- what this act is answered, what its command waits for, or what it removes
-abbrev pub act_said_by : List (List ℕ) → ℕ → Data → Option Data → Option Data → Option Condition
-act_said_by labels act d (Some is) waits = as_str is >>= λ word. option_map (Act act) (replied_called word)
-act_said_by labels act d None (Some waits) = option_map (Wait act) (place_number labels (codes "waits-for") d)
-act_said_by labels act d None None = option_map (Removal act) (place_number labels (codes "removes") d)
-
-abbrev pub act_named_at : List (List ℕ) → List (List ℕ) → Data → Option Condition
-act_named_at labels acts d = place_number acts (codes "command") d >>= λ act.
-    act_said_by labels act d (get (codes "is") d) (get (codes "waits-for") d)
-
--- a condition: an object with two keys, of which one says whose it is
-abbrev pub condition_said : List (List ℕ) → List (List ℕ) → Data → Option Condition
-condition_said labels acts d = cond (has_keys 2 d)
-    (cond (is_some (get (codes "entry") d)) (entry_said labels d) (act_named_at labels acts d)) None
-
--- the conditions of which one is to come: those at `any`, which is the only key then, or this one
-abbrev pub alternatives_by : Data → Option Data → Option (List Data)
-alternatives_by d None = Some (d ∷ [])
-alternatives_by d (Some any) = cond (has_keys 1 d) (items_in any) None
-
-abbrev pub conditions_said : List (List ℕ) → List (List ℕ) → Data → Option (List Condition)
-conditions_said labels acts d = alternatives_by d (get (codes "any") d) >>= λ ds.
-    each_onto (read_onto (condition_said labels acts)) [] ds
-
--- ---- questions
+abbrev pub inquiry_of : Questions → Inquiry
+inquiry_of questions = record {
+  asked = map question_asked questions.items.items;
+  watches = questions.watches.items;
+}
 
 -- its name, or else its number
 abbrev pub name_by : ℕ → Option Data → Option (List ℕ)
@@ -94,40 +57,62 @@ name_by number (Some d) = as_str d >>= λ text. cond (is_name text) (Some text) 
 abbrev pub keys_wanted : Data → ℕ
 keys_wanted d = cond (is_some (get (codes "name") d)) 2 1
 
--- the question with this number
-abbrev pub question_said : Kind → List (List ℕ) → List (List ℕ) → ℕ → Data → Option Asked
-question_said kind labels acts number d = cond (has_keys (keys_wanted d) d)
+-- the conditions, if rows can answer the question; an `always` asks for states
+abbrev pub rows_wanted : Kind → Nameable → Data → Option (List Condition)
+rows_wanted Always names that = None
+rows_wanted kind names that = conditions_said names.labels names.acts that
+
+-- the terms of what is asked for: an `always` asks for what is not as it says
+abbrev pub terms_for : Kind → List Term → List Term
+terms_for Always terms = terms ++ Not ∷ []
+terms_for kind terms = terms
+
+-- one question more
+abbrev pub with_question : Inquiry → Kind → List ℕ → Wanted → List Watch → Inquiry
+with_question done kind name wanted watches = record {
+  asked = done.asked ++ record { kind = kind; name = name; wanted = wanted } ∷ [];
+  watches = watches;
+}
+
+-- how deep a formula may be nested: as deep as a document
+unfoldable pub most_nested : ℕ
+most_nested = 128
+
+-- what is asked of rows, or else of states
+abbrev pub wanted_onto : Kind → Nameable → Inquiry → List ℕ → Data → Option (List Condition) → Option Inquiry
+wanted_onto kind names done name that (Some conditions) =
+    Some (with_question done kind name (rows conditions) done.watches)
+wanted_onto kind names done name that None =
+    option_map (λ (w : FormulaSoFar). with_question done kind name (states (terms_for kind w.terms)) w.watches)
+    (formula_onto most_nested names (record { terms = []; watches = done.watches }) that)
+
+-- the questions so far, and one of this kind
+abbrev pub question_onto : Kind → Nameable → Inquiry → Data → Option Inquiry
+question_onto kind names done d = cond (has_keys (keys_wanted d) d)
     (do
-      name ← name_by number (get (codes "name") d)
+      name ← name_by (length done.asked) (get (codes "name") d)
       that ← get (codes "that") d
-      conditions ← conditions_said labels acts that
-      Some (record { kind = kind; name = name; conditions = conditions }))
+      wanted_onto kind names done name that (rows_wanted kind names that))
     None
 
 -- these questions, and behind them those of the list; the first that cannot be read is bad
-abbrev pub questions_onto : Kind → List (List ℕ) → List (List ℕ) → List Asked → List Data
-    → Result (List Asked) ScenarioFault
-questions_onto kind labels acts done [] = Ok done
-questions_onto kind labels acts done (d ∷ ds) = ok_and_then
-    (λ question. questions_onto kind labels acts (done ++ question ∷ []) ds)
-    (ok_or (question_said kind labels acts (length done) d) (BadQuestion (length done)))
+abbrev pub questions_onto : Kind → Nameable → Inquiry → List Data → Result Inquiry ScenarioFault
+questions_onto kind names done [] = Ok done
+questions_onto kind names done (d ∷ ds) = ok_and_then (λ more. questions_onto kind names more ds)
+    (ok_or (question_onto kind names done d) (BadQuestion (length done.asked)))
 
 -- the key of questions
 abbrev pub key_of : Kind → List ℕ
 key_of Never = codes "never"
 key_of Sometimes = codes "sometimes"
+key_of Always = codes "always"
 
 -- these questions, and behind them those at the key; what is no array is a bad question
-abbrev pub list_onto : Kind → List (List ℕ) → List (List ℕ) → Data → List Asked → Result (List Asked) ScenarioFault
-list_onto kind labels acts d done = ok_and_then (questions_onto kind labels acts done)
-    (ok_or (read_or [] items_in (get (key_of kind) d)) (BadQuestion (length done)))
+abbrev pub list_onto : Kind → Nameable → Data → Inquiry → Result Inquiry ScenarioFault
+list_onto kind names d done = ok_and_then (questions_onto kind names done)
+    (ok_or (read_or [] items_in (get (key_of kind) d)) (BadQuestion (length done.asked)))
 
--- these are all: what stands at `always` is not read yet
-abbrev pub all_of : Data → List Asked → Result (List Asked) ScenarioFault
-all_of d done = cond (is_none (get (codes "always") d)) (Ok done) (Err (BadQuestion (length done)))
-
--- the questions of a document, where entries and acts have these labels: those of `never` come first (profile)
-abbrev pub questions_said : List (List ℕ) → List (List ℕ) → Data → Result (List Asked) ScenarioFault
-questions_said labels acts d = ok_and_then
-    (λ nevers. ok_and_then (all_of d) (list_onto Sometimes labels acts d nevers))
-    (list_onto Never labels acts d [])
+-- the questions of a document, where this may be named: those of `never` come first, those of `always` last (profile)
+abbrev pub questions_said : Nameable → Data → Result Inquiry ScenarioFault
+questions_said names d = ok_and_then (list_onto Always names d)
+    (ok_and_then (list_onto Sometimes names d) (list_onto Never names d (record { asked = []; watches = [] })))

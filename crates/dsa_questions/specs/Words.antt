@@ -7,6 +7,8 @@ use Rattle.dsa_parties.specs.declared.watches.Became.{Became, TheVariants.{Accep
 use Rattle.dsa_parties.specs.declared.watches.Became.TheVariants.{Successful, Failed, Aborted, Abandoned}
 use Rattle.dsa_parties.specs.declared.watches.Replied.{Replied, TheVariants.{Ended, Active, Refused, Finished}}
 use Rattle.dsa_parties.specs.declared.watches.Replied.TheVariants.{Nothing, Written, Cleared}
+use Rattle.dsa_formulas.specs.declared.formula.Being.{Being, TheVariants.{Held, Waiting}}
+use Rattle.dsa_regs.specs.declared.Phase.{Phase, TheVariants.{Off, On, Stopping}}
 
 -- what becomes of an entry, by this word
 abbrev pub became_called : List ℕ → Option Became
@@ -30,6 +32,17 @@ replied_called word = first_row (
     (bytes_eq word (codes "nothing"), Nothing) ∷
     (bytes_eq word (codes "written"), Written) ∷
     (bytes_eq word (codes "cleared"), Cleared) ∷ [])
+
+-- how an entry is held, by this word
+abbrev pub being_called : List ℕ → Option Being
+being_called word = first_row ((bytes_eq word (codes "held"), Held) ∷ (bytes_eq word (codes "waiting"), Waiting) ∷ [])
+
+-- the phase of this word
+abbrev pub phase_called : List ℕ → Option Phase
+phase_called word = first_row (
+    (bytes_eq word (codes "off"), Off) ∷
+    (bytes_eq word (codes "on"), On) ∷
+    (bytes_eq word (codes "stopping"), Stopping) ∷ [])
 
 -- one to eighty characters that can be shown as they are
 abbrev pub is_name : List ℕ → Bool

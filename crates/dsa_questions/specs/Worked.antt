@@ -3,7 +3,7 @@
 use Rattle.dsa_book.specs.declared.answer.IssueAnswer.TheVariants as issue
 use Rattle.dsa_book.specs.declared.answer.Reply.TheVariants as reply
 use Rattle.std.proofs.Common.{arith}
-use Rattle.std.specs.Prelude.{ℕ, ⊤, Bool, List, [], ◌∷◌, None, codes}
+use Rattle.std.specs.Prelude.{ℕ, ⊤, Bool, List, [], ◌∷◌, None, codes, map}
 use Rattle.std.specs.declared.alloc.Global.{Global}
 use Rattle.serde_json.specs.Data.{Data, string}
 use Rattle.dsa_book.specs.declared.fate.Fate.TheVariants as fate
@@ -12,13 +12,16 @@ use Rattle.dsa_parties.specs.Worked.{vector_in}
 use Rattle.dsa_plans.specs.Worked.{listing}
 use Rattle.dsa_explore.specs.declared.found.{Explored.{Explored}, Found.{Found}}
 use Rattle.dsa_tables.specs.Worked.{act_found, end_found, tables_on_literals, wait_found}
+use Rattle.dsa_tables.specs.Worked.{three_acts, two_labels}
 use Rattle.dsa_questions.specs.declared.question.{Condition.{Condition, TheVariants.{Entry}}, Kind.{Kind}}
-use Rattle.dsa_parties.specs.declared.watches.Became.TheVariants.{Aborted}
-use Rattle.dsa_questions.specs.{Lines.{question_line}, Objects.{question_object}, Reading.{Asked}}
+use Rattle.dsa_parties.specs.declared.watches.{Became.TheVariants.{Aborted}, Watch.{Watch}}
+use Rattle.dsa_formulas.specs.declared.formula.Term.{Term}
+use Rattle.dsa_questions.specs.{Lines.{question_line}, Objects.{question_object}}
+use Rattle.dsa_questions.specs.{Reading.{Asked, Inquiry, most_nested, rows, states}, Stating.{FormulaSoFar, Nameable}, Verdicts.{Answer, answer_with}}
 
 -- what a row unfolds to compute its lines
 unfoldable pub questions_on_literals : ⊤
-unfolding tables_on_literals question_line question_object
+unfolding tables_on_literals question_line question_object most_nested
 questions_on_literals = tt
 
 -- ---- documents
@@ -37,6 +40,13 @@ command_is label word = worked_pair (codes "command") label (codes "is") word
 -- one of these
 abbrev pub any_of : List Data → Data
 any_of ds = object_of ((codes "any", listing ds) ∷ [])
+
+-- all of these, and not this one
+abbrev pub all_of : List Data → Data
+all_of ds = object_of ((codes "all", listing ds) ∷ [])
+
+abbrev pub negated : Data → Data
+negated d = object_of ((codes "not", d) ∷ [])
 
 -- a question without a name, and one with a name
 abbrev pub question_about : Data → Data
@@ -57,7 +67,31 @@ abbrev pub aborted_at : ℕ → List Condition
 aborted_at label = Entry label Aborted ∷ []
 
 abbrev pub asking : Kind → List ℕ → List Condition → Asked
-asking kind name conditions = record { kind = kind; name = name; conditions = conditions }
+asking kind name conditions = record { kind = kind; name = name; wanted = rows conditions }
+
+-- a question about states
+abbrev pub asking_states : Kind → List ℕ → List Term → Asked
+asking_states kind name terms = record { kind = kind; name = name; wanted = states terms }
+
+-- a formula so far, and one of which nothing is read
+abbrev pub so_far : List Term → List Watch → FormulaSoFar
+so_far terms watches = record { terms = terms; watches = watches }
+
+abbrev pub no_formula : FormulaSoFar
+no_formula = so_far [] []
+
+-- these questions, for which nothing is watched
+abbrev pub inquired : List Asked → Inquiry
+inquired asked = record { asked = asked; watches = [] }
+
+-- what may be named: these labels, two queues, two clients and an administrator
+abbrev pub worked_names : Nameable
+worked_names =
+    record { labels = two_labels; acts = three_acts; queues = 2; clients = 2; administrators = 1 }
+
+-- what a search says of questions about rows
+abbrev pub answered_so : Explored → List Asked → List Answer
+answered_so explored questions = map (λ (question : Asked). answer_with explored question None) questions
 
 -- ---- searches
 

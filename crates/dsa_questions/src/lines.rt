@@ -4,11 +4,11 @@ ghost use Rattle.std.specs.Prelude.{◌≡◌, ◌++◌, map, string_bytes};
 ghost use Rattle.dsa_event_text.specs.Added.{Adds};
 ghost use Rattle.dsa_questions.specs.Lines.{text_with_answers, question_line, question_lines};
 ghost use Rattle.dsa_questions.specs.Lines.{steps_words, verdict_words};
-ghost use Rattle.dsa_questions.specs.Reading.{question_asked};
+ghost use Rattle.dsa_questions.specs.Told.{as_answer};
 
-use crate::question::{Kind, Question};
+use crate::question::Kind;
 use crate::reading::key_of;
-use crate::verdicts::{Outlook, outlook_of};
+use crate::verdicts::{Answered, Outlook};
 use dsa_event_text::{Added, add_number};
 use dsa_explore::Explored;
 use dsa_plans::PartyScripts;
@@ -19,9 +19,9 @@ pub fn verdict_words(kind: Kind, outlook: Outlook) -> &'static str
     ensures { result.now ≡ verdict_words kind outlook }
 {
     match (kind, outlook) {
-        (Kind::Never, Outlook::With(_)) => "broken",
-        (Kind::Never, Outlook::InNoOrder) => "kept",
-        (Kind::Never, Outlook::NotSoFar) => "kept so far",
+        (Kind::Never | Kind::Always, Outlook::With(_)) => "broken",
+        (Kind::Never | Kind::Always, Outlook::InNoOrder) => "kept",
+        (Kind::Never | Kind::Always, Outlook::NotSoFar) => "kept so far",
         (Kind::Sometimes, Outlook::With(_)) => "kept",
         (Kind::Sometimes, Outlook::InNoOrder) => "broken",
         (Kind::Sometimes, Outlook::NotSoFar) => "not seen so far",
@@ -43,27 +43,24 @@ fn add_steps(text: &mut String, outlook: Outlook) -> Added
 
 // The line of a question.
 #[tactic(auto, unfolding(crate::specs::Lines::question_line))]
-fn add_question(text: &mut String, question: &Question, explored: &Explored) -> Added
-    ensures { Adds result text.old text.new (question_line explored.now (question_asked
-        question.now)) }
+fn add_question(text: &mut String, answer: &Answered<'_>) -> Added
+    ensures { Adds result text.old text.new (question_line (as_answer answer.now)) }
 {
-    text.push_str(key_of(question.kind))?;
+    text.push_str(key_of(answer.kind))?;
     text.push_str(" ")?;
-    text.push_str(question.name.as_str())?;
+    text.push_str(answer.name)?;
     text.push_str(": ")?;
-    let outlook = outlook_of(question.conditions.as_slice(), explored);
-    text.push_str(verdict_words(question.kind, outlook))?;
-    add_steps(text, outlook)?;
+    text.push_str(verdict_words(answer.kind, answer.outlook))?;
+    add_steps(text, answer.outlook)?;
     text.push_str("\n")
 }
 
-// The lines of all questions.
-fn add_questions(text: &mut String, questions: &[Question], explored: &Explored) -> Added
-    ensures { Adds result text.old text.new
-        (question_lines (map question_asked questions.now) explored.now) }
+/// Adds the lines of all questions.
+pub fn add_questions(text: &mut String, answers: &[Answered<'_>]) -> Added
+    ensures { Adds result text.old text.new (question_lines (map as_answer answers.now)) }
 {
-    for question in questions {
-        add_question(text, question, explored)?;
+    for answer in answers {
+        add_question(text, answer)?;
     }
     Ok(())
 }
@@ -74,15 +71,15 @@ fn add_questions(text: &mut String, questions: &[Question], explored: &Explored)
 pub fn add_answered_table(
     text: &mut String,
     parties: &PartyScripts,
-    questions: &[Question],
+    answers: &[Answered<'_>],
     explored: &Explored,
 ) -> Added
     ensures { Adds result text.old text.new
         (text_with_answers (map string_bytes parties.now.labels.items)
-        (map string_bytes parties.now.acts.items) (map question_asked questions.now) explored.now) }
+        (map string_bytes parties.now.acts.items) (map as_answer answers.now) explored.now) }
 {
     let labels = parties.labels.as_slice();
     add_lines(text, labels, parties.acts.as_slice(), explored)?;
-    add_questions(text, questions, explored)?;
+    add_questions(text, answers)?;
     add_search(text, explored)
 }

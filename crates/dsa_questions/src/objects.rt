@@ -4,12 +4,12 @@ ghost use Rattle.std.specs.Prelude.{◌≡◌, map, string_bytes};
 ghost use Rattle.dsa_event_text.specs.Added.{Adds};
 ghost use Rattle.dsa_questions.specs.Objects.{objects_with_answers, question_members, question_object};
 ghost use Rattle.dsa_questions.specs.Objects.{question_objects, steps_member, verdict_members};
-ghost use Rattle.dsa_questions.specs.Reading.{question_asked};
+ghost use Rattle.dsa_questions.specs.Told.{as_answer};
 
 use crate::lines::verdict_words;
-use crate::question::{Kind, Question};
+use crate::question::Kind;
 use crate::reading::key_of;
-use crate::verdicts::{Outlook, outlook_of};
+use crate::verdicts::{Answered, Outlook};
 use dsa_event_text::{Added, add_number};
 use dsa_explore::Explored;
 use dsa_plans::PartyScripts;
@@ -27,14 +27,13 @@ fn add_steps_member(text: &mut String, outlook: Outlook) -> Added
 }
 
 // Adds whose verdict it is.
-fn add_question_members(text: &mut String, question: &Question) -> Added
-    ensures { Adds result text.old text.new
-        (question_members question.now.kind (string_bytes question.now.name)) }
+fn add_question_members(text: &mut String, kind: Kind, name: &str) -> Added
+    ensures { Adds result text.old text.new (question_members kind name.now) }
 {
     text.push_str("{\"question\":\"")?;
-    text.push_str(question.name.as_str())?;
+    text.push_str(name)?;
     text.push_str("\",\"kind\":\"")?;
-    text.push_str(key_of(question.kind))?;
+    text.push_str(key_of(kind))?;
     text.push_str("\",\"verdict\":\"")
 }
 
@@ -50,22 +49,19 @@ fn add_verdict_members(text: &mut String, kind: Kind, outlook: Outlook) -> Added
 
 // Adds the object of a question.
 #[tactic(auto, unfolding(crate::specs::Objects::question_object))]
-fn add_question_object(text: &mut String, question: &Question, explored: &Explored) -> Added
-    ensures { Adds result text.old text.new (question_object explored.now (question_asked
-        question.now)) }
+fn add_question_object(text: &mut String, answer: &Answered<'_>) -> Added
+    ensures { Adds result text.old text.new (question_object (as_answer answer.now)) }
 {
-    add_question_members(text, question)?;
-    let outlook = outlook_of(question.conditions.as_slice(), explored);
-    add_verdict_members(text, question.kind, outlook)
+    add_question_members(text, answer.kind, answer.name)?;
+    add_verdict_members(text, answer.kind, answer.outlook)
 }
 
-// Adds the objects of all questions.
-fn add_question_objects(text: &mut String, questions: &[Question], explored: &Explored) -> Added
-    ensures { Adds result text.old text.new
-        (question_objects (map question_asked questions.now) explored.now) }
+/// Adds the objects of all questions.
+pub fn add_question_objects(text: &mut String, answers: &[Answered<'_>]) -> Added
+    ensures { Adds result text.old text.new (question_objects (map as_answer answers.now)) }
 {
-    for question in questions {
-        add_question_object(text, question, explored)?;
+    for answer in answers {
+        add_question_object(text, answer)?;
     }
     Ok(())
 }
@@ -77,15 +73,15 @@ pub fn add_answered_objects(
     alloc: Global,
     text: &mut String,
     parties: &PartyScripts,
-    questions: &[Question],
+    answers: &[Answered<'_>],
     explored: &Explored,
 ) -> Added
     ensures { Adds result text.old text.new
         (objects_with_answers (map string_bytes parties.now.labels.items)
-        (map string_bytes parties.now.acts.items) (map question_asked questions.now) explored.now) }
+        (map string_bytes parties.now.acts.items) (map as_answer answers.now) explored.now) }
 {
     let labels = parties.labels.as_slice();
     add_objects(alloc, text, labels, parties.acts.as_slice(), explored)?;
-    add_question_objects(text, questions, explored)?;
+    add_question_objects(text, answers)?;
     add_search_object(text, explored)
 }

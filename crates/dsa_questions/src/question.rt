@@ -1,6 +1,7 @@
 //! What a question asks for.
 
-use dsa_parties::{Became, Replied};
+use dsa_formulas::Term;
+use dsa_parties::{Became, Replied, Watch};
 
 /// A condition on what a search finds. Entries go by their labels, and steps of administrators by
 /// their numbers.
@@ -14,17 +15,37 @@ pub enum Condition {
     Removal { act: usize, label: usize },
 }
 
-/// Whether what is asked for must not come in any order, or has to come in some.
+/// Whether what is asked for must not come in any order, has to come in some, or has to hold in
+/// each state.
 #[derive(Clone, Copy, Debug, PartialEq, Eq)]
 pub enum Kind {
     Never,
     Sometimes,
+    Always,
 }
 
-/// A question: it asks for each finding that one of its conditions is about.
+/// What a question asks for.
+#[derive(Debug, Drop)]
+pub enum Sought {
+    /// Each finding that one of these conditions is about.
+    Rows(Vec<Condition>),
+    /// Each state in which the formula of these terms holds. An `always` asks for those in which
+    /// what is to hold does not.
+    States(Vec<Term>),
+}
+
+/// A question.
 #[derive(Debug, Drop)]
 pub struct Question {
     pub kind: Kind,
     pub name: String,
-    pub conditions: Vec<Condition>,
+    pub sought: Sought,
+}
+
+/// The questions of a document, and what the script of its parties has to watch for: a watch of a
+/// formula has the number of its place here.
+#[derive(Debug, Drop)]
+pub struct Questions {
+    pub items: Vec<Question>,
+    pub watches: Vec<Watch>,
 }

@@ -1,207 +1,35 @@
 //! The questions of a document.
 
-ghost use Rattle.std.specs.Prelude.{◌≡◌, ◌⊎◌, ◌+◌, ◌<◌, [], Ok, Err, bytes_eq, codes, drop, length, map};
-ghost use Rattle.std.specs.Prelude.{option_map, position, string_bytes, IfErr, IfOk, IfSome, OnOk};
-ghost use Rattle.std.specs.List.{list_any};
+ghost use Rattle.std.specs.Prelude.{◌≡◌, ◌⊎◌, ◌++◌, ◌∷◌, [], Ok, Err, codes, map, option_map, string_bytes};
+ghost use Rattle.std.specs.Prelude.{IfErr, IfOk, OnOk};
 ghost use Rattle.serde_json.specs.{View.{view}, Find.{get}};
 ghost use Rattle.dsa_base.specs.Rows.{when};
-ghost use Rattle.dsa_scenario.specs.Fields.{text_of};
 ghost use Rattle.dsa_scenario.specs.declared.faults.ScenarioFault.{ScenarioFault};
-ghost use Rattle.dsa_plans.specs.Said.{each_onto, items_in, read_onto, read_or};
-ghost use Rattle.dsa_questions.specs.Reading.{act_named_at, act_said_by, alternatives_by, question_asked};
-ghost use Rattle.dsa_questions.specs.Reading.{condition_said, conditions_said, entry_said, has_keys};
-ghost use Rattle.dsa_questions.specs.Reading.{key_of, keys_wanted, list_onto, name_by, place_number, number_called};
-ghost use Rattle.dsa_questions.specs.Reading.{question_said, questions_onto, questions_said};
+ghost use Rattle.dsa_plans.specs.Plans.{ok_and_then};
+ghost use Rattle.dsa_questions.specs.declared.question.Kind.{Kind};
+ghost use Rattle.dsa_questions.specs.Conditions.{has_keys};
+ghost use Rattle.dsa_questions.specs.Formed.{as_names};
+ghost use Rattle.dsa_questions.specs.Reading.{inquiry_of, key_of, keys_wanted, list_onto, name_by};
+ghost use Rattle.dsa_questions.specs.Reading.{most_nested, question_onto, questions_onto, questions_said};
+ghost use Rattle.dsa_questions.specs.Reading.{rows_wanted, terms_for, wanted_onto};
 
-use crate::question::{Condition, Kind, Question};
-use crate::words::{became_called, is_name, replied_called};
-use dsa_plans::PartyScripts;
+use crate::conditions::{conditions_said, has_keys, items_or_none};
+use crate::question::{Condition, Kind, Question, Questions, Sought};
+use crate::stating::{Formed, Naming, add_formula};
+use crate::words::is_name;
+use dsa_formulas::Term;
 use dsa_scenario::ScenarioFault;
 use itoa::Buffer;
 use serde_json::Value;
 use std::alloc::{AllocError, Global};
-use std::slice::from_ref;
+use std::mem;
 
-// The items of an array.
-#[tactic(auto, using(dsa_plans::proofs::Items::listed))]
-fn items_in(value: &Value) -> Option<&[Value]>
-    ensures { option_map (λ items. map view items.now) result ≡ items_in (view value.now) }
+/// How deep a formula may be nested: as deep as a document.
+#[tactic(auto, unfolding(crate::specs::Reading::most_nested))]
+pub fn most_nested() -> u32
+    ensures { result ≡ most_nested }
 {
-    Some(value.as_array()?.as_slice())
-}
-
-// The items of the array at the key; none where nothing stands there.
-fn items_or_none<'v>(object: &'v Value, key: &str) -> Option<&'v [Value]>
-    ensures { option_map (λ items. map view items.now) result
-        ≡ read_or [] items_in (get key.now (view object.now)) }
-{
-    match object.get(key) {
-        None => Some(&[]),
-        Some(value) => items_in(value),
-    }
-}
-
-// The text at the key.
-fn text_at<'v>(object: &'v Value, key: &str) -> Option<&'v str>
-    ensures { option_map (λ text. text.now) result ≡ text_of key.now (view object.now) }
-{
-    object.get(key)?.as_str()
-}
-
-// The place of the first label that is this text.
-fn first_called(labels: &[String], text: &str) -> Option<usize>
-    ensures place { result
-        ≡ position (λ label. bytes_eq label text.now) (map string_bytes labels.now) }
-    ensures within { IfSome result (λ place. place < length labels.now) }
-{
-    labels.iter().position(|label| label.as_str() == text)
-}
-
-// Whether a label is this text.
-fn is_called(labels: &[String], text: &str) -> bool
-    ensures { result ≡ list_any (λ label. bytes_eq label text.now) (map string_bytes labels.now) }
-{
-    labels.iter().any(|label| label.as_str() == text)
-}
-
-// The labels behind this place.
-fn behind(labels: &[String], place: usize) -> &[String]
-    requires { place < length labels.now }
-    ensures { result.now ≡ drop (place + 1) labels.now }
-{
-    &labels[place + 1..]
-}
-
-// The number of the one label that is this text.
-fn number_called(labels: &[String], text: &str) -> Option<usize>
-    ensures { result ≡ number_called (map string_bytes labels.now) text.now }
-{
-    let first = first_called(labels, text)?;
-    if is_called(behind(labels, first), text) {
-        None
-    } else {
-        Some(first)
-    }
-}
-
-// That of the text at the key.
-fn place_number(labels: &[String], key: &str, object: &Value) -> Option<usize>
-    ensures { result ≡ place_number (map string_bytes labels.now) key.now (view object.now) }
-{
-    number_called(labels, text_at(object, key)?)
-}
-
-// Whether it is an object with so many keys.
-fn has_keys(count: usize, value: &Value) -> bool
-    ensures { result ≡ has_keys count (view value.now) }
-{
-    match value.as_object() {
-        Some(members) => members.len() == count,
-        None => false,
-    }
-}
-
-// What becomes of an entry.
-fn entry_said(labels: &[String], object: &Value) -> Option<Condition>
-    ensures { result ≡ entry_said (map string_bytes labels.now) (view object.now) }
-{
-    let label = place_number(labels, "entry", object)?;
-    let became = became_called(text_at(object, "is")?)?;
-    Some(Condition::Entry { label, became })
-}
-
-// What this act is answered, what its command waits for, or what it removes.
-fn act_named_at(labels: &[String], acts: &[String], object: &Value) -> Option<Condition>
-    ensures { result
-        ≡ act_named_at (map string_bytes labels.now) (map string_bytes acts.now) (view object.now) }
-{
-    let act = place_number(acts, "command", object)?;
-    if let Some(is) = object.get("is") {
-        let replied = replied_called(is.as_str()?)?;
-        return Some(Condition::Act { act, replied });
-    }
-    if object.get("waits-for").is_some() {
-        let label = place_number(labels, "waits-for", object)?;
-        return Some(Condition::Wait { act, label });
-    }
-    let label = place_number(labels, "removes", object)?;
-    Some(Condition::Removal { act, label })
-}
-
-// A condition.
-fn condition_said(parties: &PartyScripts, value: &Value) -> Option<Condition>
-    ensures { result
-        ≡ condition_said (map string_bytes parties.now.labels.items)
-        (map string_bytes parties.now.acts.items) (view value.now) }
-{
-    let labels = parties.labels.as_slice();
-    if !has_keys(2, value) {
-        None
-    } else if value.get("entry").is_some() {
-        entry_said(labels, value)
-    } else {
-        act_named_at(labels, parties.acts.as_slice(), value)
-    }
-}
-
-// Adds these conditions, and says whether all can be read.
-fn add_conditions(
-    conditions: &mut Vec<Condition>,
-    parties: &PartyScripts,
-    items: &[Value],
-) -> Result<bool, AllocError>
-    ensures { IfOk result (λ good. when good conditions.new.items
-        ≡ each_onto
-        (read_onto
-        (condition_said (map string_bytes parties.now.labels.items)
-        (map string_bytes parties.now.acts.items)))
-        conditions.old.items (map view items.now)) }
-{
-    for item in items {
-        let Some(condition) = condition_said(parties, item) else {
-            return Ok(false);
-        };
-        conditions.push(condition)?;
-    }
-    Ok(true)
-}
-
-// The conditions of which one is to come.
-fn alternatives(that: &Value) -> Option<&[Value]>
-    ensures { option_map (λ items. map view items.now) result
-        ≡ alternatives_by (view that.now) (get (codes "any") (view that.now)) }
-{
-    match that.get("any") {
-        None => Some(from_ref(that)),
-        Some(any) => {
-            if has_keys(1, that) {
-                items_in(any)
-            } else {
-                None
-            }
-        }
-    }
-}
-
-// What stands at `that`.
-fn conditions_said(
-    alloc: Global,
-    parties: &PartyScripts,
-    that: &Value,
-) -> Result<Option<Vec<Condition>>, AllocError>
-    ensures { IfOk result (λ found. option_map (λ conditions. conditions.items) found
-        ≡ conditions_said (map string_bytes parties.now.labels.items)
-        (map string_bytes parties.now.acts.items) (view that.now)) }
-{
-    let Some(items) = alternatives(that) else {
-        return Ok(None);
-    };
-    let mut conditions = Vec::new(alloc);
-    if add_conditions(&mut conditions, parties, items)? {
-        Ok(Some(conditions))
-    } else {
-        Ok(None)
-    }
+    128
 }
 
 // The name of the question with this number.
@@ -219,70 +47,131 @@ fn name_said(alloc: Global, number: usize, object: &Value) -> Result<Option<Stri
     }
 }
 
-// Whether a question has no other key than its name and `that`.
-fn has_question_keys(object: &Value) -> bool
+/// Whether a question has no other key than its name and `that`.
+pub fn has_question_keys(object: &Value) -> bool
     ensures { result ≡ has_keys (keys_wanted (view object.now)) (view object.now) }
 {
     let count = if object.get("name").is_some() { 2 } else { 1 };
     has_keys(count, object)
 }
 
-// The question with this number.
-fn question_said(
+// The conditions, if rows can answer the question.
+fn rows_wanted(
     alloc: Global,
     kind: Kind,
-    parties: &PartyScripts,
-    number: usize,
+    naming: &Naming<'_>,
+    that: &Value,
+) -> Result<Option<Vec<Condition>>, AllocError>
+    ensures { IfOk result (λ found. option_map (λ conditions. conditions.items) found
+        ≡ rows_wanted kind (as_names naming.now) (view that.now)) }
+{
+    match kind {
+        Kind::Always => Ok(None),
+        Kind::Never | Kind::Sometimes => conditions_said(alloc, naming.parties, that),
+    }
+}
+
+// The terms of what is asked for.
+fn terms_for(kind: Kind, terms: Vec<Term>) -> Result<Vec<Term>, AllocError>
+    ensures { IfOk result (λ wanted. wanted.items ≡ terms_for kind terms.items) }
+{
+    let mut terms = terms;
+    if matches!(kind, Kind::Always) {
+        terms.push(Term::Not)?;
+    }
+    Ok(terms)
+}
+
+// Adds a question of this kind and name that asks for states, and says whether it can be read.
+fn add_states(
+    alloc: Global,
+    questions: &mut Questions,
+    kind: Kind,
+    naming: &Naming<'_>,
+    name: String,
+    that: &Value,
+) -> Result<bool, AllocError>
+    ensures { IfOk result (λ good. when good (inquiry_of questions.new)
+        ≡ wanted_onto kind (as_names naming.now) (inquiry_of questions.old) (string_bytes name)
+        (view that.now) None) }
+{
+    let mut so_far = Formed {
+        terms: Vec::new(alloc),
+        watches: mem::replace(&mut questions.watches, Vec::new(alloc)),
+    };
+    if !add_formula(&mut so_far, most_nested(), naming, that)? {
+        return Ok(false);
+    }
+    questions.watches = so_far.watches;
+    let sought = Sought::States(terms_for(kind, so_far.terms)?);
+    questions.items.push(Question { kind, name, sought })?;
+    Ok(true)
+}
+
+// Adds a question of this kind and name, and says whether it can be read.
+fn add_wanted(
+    alloc: Global,
+    questions: &mut Questions,
+    kind: Kind,
+    naming: &Naming<'_>,
+    name: String,
+    that: &Value,
+) -> Result<bool, AllocError>
+    ensures { IfOk result (λ good. when good (inquiry_of questions.new)
+        ≡ wanted_onto kind (as_names naming.now) (inquiry_of questions.old) (string_bytes name)
+        (view that.now) (rows_wanted kind (as_names naming.now) (view that.now))) }
+{
+    let Some(conditions) = rows_wanted(alloc, kind, naming, that)? else {
+        return add_states(alloc, questions, kind, naming, name, that);
+    };
+    let sought = Sought::Rows(conditions);
+    questions.items.push(Question { kind, name, sought })?;
+    Ok(true)
+}
+
+/// Adds a question of this kind, and says whether it can be read.
+pub fn add_question(
+    alloc: Global,
+    questions: &mut Questions,
+    kind: Kind,
+    naming: &Naming<'_>,
     object: &Value,
-) -> Result<Option<Question>, AllocError>
-    ensures { IfOk result (λ found. option_map question_asked found
-        ≡ question_said kind (map string_bytes parties.now.labels.items)
-        (map string_bytes parties.now.acts.items) number (view object.now)) }
+) -> Result<bool, AllocError>
+    ensures { IfOk result (λ good. when good (inquiry_of questions.new)
+        ≡ question_onto kind (as_names naming.now) (inquiry_of questions.old) (view object.now)) }
 {
     if !has_question_keys(object) {
-        return Ok(None);
+        return Ok(false);
     }
-    let Some(name) = name_said(alloc, number, object)? else {
-        return Ok(None);
+    let Some(name) = name_said(alloc, questions.items.len(), object)? else {
+        return Ok(false);
     };
     let Some(that) = object.get("that") else {
-        return Ok(None);
+        return Ok(false);
     };
-    let Some(conditions) = conditions_said(alloc, parties, that)? else {
-        return Ok(None);
-    };
-    Ok(Some(Question {
-        kind,
-        name,
-        conditions,
-    }))
+    add_wanted(alloc, questions, kind, naming, name, that)
 }
 
 // Adds these questions; the first that cannot be read is bad.
 fn add_questions(
     alloc: Global,
-    questions: &mut Vec<Question>,
+    questions: &mut Questions,
     kind: Kind,
-    parties: &PartyScripts,
+    naming: &Naming<'_>,
     items: &[Value],
 ) -> Result<(), ScenarioFault>
     ensures ok { OnOk result
-        (questions_onto kind (map string_bytes parties.now.labels.items)
-        (map string_bytes parties.now.acts.items) (map question_asked questions.old.items)
-        (map view items.now)
-        ≡ Ok (map question_asked questions.new.items)) }
+        (questions_onto kind (as_names naming.now) (inquiry_of questions.old) (map view items.now)
+        ≡ Ok (inquiry_of questions.new)) }
     ensures err { IfErr result (λ e. (e ≡ ScenarioFault.OutOfMemory)
-        ⊎ (questions_onto kind (map string_bytes parties.now.labels.items)
-        (map string_bytes parties.now.acts.items) (map question_asked questions.old.items)
-        (map view items.now)
+        ⊎ (questions_onto kind (as_names naming.now) (inquiry_of questions.old) (map view items.now)
         ≡ Err e)) }
 {
     for item in items {
-        let number = questions.len();
-        let Some(question) = question_said(alloc, kind, parties, number, item)? else {
+        let number = questions.items.len();
+        if !add_question(alloc, questions, kind, naming, item)? {
             return Err(ScenarioFault::BadQuestion(number as u64));
-        };
-        questions.push(question)?;
+        }
     }
     Ok(())
 }
@@ -294,66 +183,88 @@ pub fn key_of(kind: Kind) -> &'static str
     match kind {
         Kind::Never => "never",
         Kind::Sometimes => "sometimes",
+        Kind::Always => "always",
     }
 }
 
 // Adds the questions at the key.
 fn add_list(
     alloc: Global,
-    questions: &mut Vec<Question>,
+    questions: &mut Questions,
     kind: Kind,
-    parties: &PartyScripts,
+    naming: &Naming<'_>,
     document: &Value,
 ) -> Result<(), ScenarioFault>
     ensures ok { OnOk result
-        (list_onto kind (map string_bytes parties.now.labels.items)
-        (map string_bytes parties.now.acts.items) (view document.now)
-        (map question_asked questions.old.items)
-        ≡ Ok (map question_asked questions.new.items)) }
+        (list_onto kind (as_names naming.now) (view document.now) (inquiry_of questions.old)
+        ≡ Ok (inquiry_of questions.new)) }
     ensures err { IfErr result (λ e. (e ≡ ScenarioFault.OutOfMemory)
-        ⊎ (list_onto kind (map string_bytes parties.now.labels.items)
-        (map string_bytes parties.now.acts.items) (view document.now)
-        (map question_asked questions.old.items)
+        ⊎ (list_onto kind (as_names naming.now) (view document.now) (inquiry_of questions.old)
         ≡ Err e)) }
 {
     let Some(items) = items_or_none(document, key_of(kind)) else {
-        return Err(ScenarioFault::BadQuestion(questions.len() as u64));
+        return Err(ScenarioFault::BadQuestion(questions.items.len() as u64));
     };
-    add_questions(alloc, questions, kind, parties, items)
+    add_questions(alloc, questions, kind, naming, items)
 }
 
-/// Reads the questions of a document, where its parties are these.
-///
-/// The keys `never` and `sometimes` have arrays of questions. Those of `never` come first, and all
-/// are counted from 0. A question has a condition at `that`, and may have a `name`, one to eighty
-/// characters that can be shown as they are; else its number is its name. It has no other key.
-///
-/// A condition is one of these objects, with two keys: `entry` with a label, and `is` with a word
-/// of what becomes of the entry; `command` with the label of a step of an administrator, and `is`
-/// with a word of its answer, `waits-for` with the label of an entry, or `removes` with one. Or it
-/// is an object with the key `any` alone, an array of such conditions.
-///
-/// A label that nobody has, or that several have, makes the question bad, and so does all that
-/// cannot be read. What stands at `always` is one bad question behind the others.
-pub fn read_questions(
+// Adds the questions of `never` and of `sometimes`.
+fn add_two_lists(
     alloc: Global,
-    parties: &PartyScripts,
+    questions: &mut Questions,
+    naming: &Naming<'_>,
     document: &Value,
-) -> Result<Vec<Question>, ScenarioFault>
-    ensures ok { IfOk result
-        (λ questions. questions_said (map string_bytes parties.now.labels.items)
-        (map string_bytes parties.now.acts.items) (view document.now)
-        ≡ Ok (map question_asked questions.items)) }
+) -> Result<(), ScenarioFault>
+    ensures ok { OnOk result
+        (ok_and_then (list_onto Kind.Sometimes (as_names naming.now) (view document.now))
+        (list_onto Kind.Never (as_names naming.now) (view document.now) (inquiry_of questions.old))
+        ≡ Ok (inquiry_of questions.new)) }
     ensures err { IfErr result (λ e. (e ≡ ScenarioFault.OutOfMemory)
-        ⊎ (questions_said (map string_bytes parties.now.labels.items)
-        (map string_bytes parties.now.acts.items) (view document.now)
+        ⊎ (ok_and_then (list_onto Kind.Sometimes (as_names naming.now) (view document.now))
+        (list_onto Kind.Never (as_names naming.now) (view document.now) (inquiry_of questions.old))
         ≡ Err e)) }
 {
-    let mut questions = Vec::new(alloc);
-    add_list(alloc, &mut questions, Kind::Never, parties, document)?;
-    add_list(alloc, &mut questions, Kind::Sometimes, parties, document)?;
-    if document.get("always").is_some() {
-        return Err(ScenarioFault::BadQuestion(questions.len() as u64));
-    }
+    add_list(alloc, questions, Kind::Never, naming, document)?;
+    add_list(alloc, questions, Kind::Sometimes, naming, document)
+}
+
+/// Reads the questions of a document, where this may be named.
+///
+/// The keys `never`, `sometimes` and `always` have arrays of questions, in this order, and all are
+/// counted from 0. A question has a condition at `that`, and may have a `name`, one to eighty
+/// characters that can be shown as they are; else its number is its name. It has no other key.
+///
+/// A `never` or a `sometimes` may ask for rows of the table, by one of these objects, with two
+/// keys: `entry` with a label, and `is` with a word of what becomes of the entry; `command` with
+/// the label of a step of an administrator, and `is` with a word of its answer, `waits-for` with
+/// the label of an entry, or `removes` with one. Or by an object with the key `any` alone, an array
+/// of these.
+///
+/// Each other condition asks for states, and so does each `always`. `entry` and `is`, also with
+/// `held` and `waiting`, and `command` and `is` stand there as they do for rows; `entry` may have
+/// `accepted-before` with the label of a step of an administrator; `queue` has a `phase` or an
+/// `occupancy`; and `device` with a phase, `client` and `admin` with a number stand alone. Objects
+/// with the key `all`, `any` or `not` alone join conditions. The script has to watch for what is
+/// said to have come: the watches are all of these, by their numbers.
+///
+/// A label that nobody has, or that several have, makes the question bad, and so does all that
+/// cannot be read.
+pub fn read_questions(
+    alloc: Global,
+    naming: &Naming<'_>,
+    document: &Value,
+) -> Result<Questions, ScenarioFault>
+    ensures ok { IfOk result
+        (λ questions. questions_said (as_names naming.now) (view document.now)
+        ≡ Ok (inquiry_of questions)) }
+    ensures err { IfErr result (λ e. (e ≡ ScenarioFault.OutOfMemory)
+        ⊎ (questions_said (as_names naming.now) (view document.now) ≡ Err e)) }
+{
+    let mut questions = Questions {
+        items: Vec::new(alloc),
+        watches: Vec::new(alloc),
+    };
+    add_two_lists(alloc, &mut questions, naming, document)?;
+    add_list(alloc, &mut questions, Kind::Always, naming, document)?;
     Ok(questions)
 }

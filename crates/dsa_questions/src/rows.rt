@@ -19,15 +19,17 @@ ghost use Rattle.dsa_tables.specs.Table.{table_text};
 ghost use Rattle.dsa_tables.specs.Worked.{three_acts, two_labels};
 ghost use Rattle.dsa_parties.specs.declared.watches.Became.TheVariants as became;
 ghost use Rattle.dsa_questions.specs.declared.question.Condition.TheVariants.{Entry, Act, Wait, Removal};
-ghost use Rattle.dsa_questions.specs.declared.question.Kind.TheVariants.{Never, Sometimes};
+ghost use Rattle.dsa_questions.specs.declared.question.Kind.TheVariants.{Never, Sometimes, Always};
 ghost use Rattle.dsa_parties.specs.declared.watches.Replied.TheVariants as replied;
 ghost use Rattle.dsa_questions.specs.declared.verdicts.Outlook.TheVariants.{InNoOrder, NotSoFar, With};
 ghost use Rattle.dsa_questions.specs.Asked.{is_about_entry, is_row_asked};
 ghost use Rattle.dsa_questions.specs.Lines.{text_with_answers, question_lines, steps_words, verdict_words};
-ghost use Rattle.dsa_questions.specs.Reading.{condition_said, conditions_said, number_called, question_said, questions_said};
+ghost use Rattle.dsa_questions.specs.Conditions.{condition_said, conditions_said, number_called};
+ghost use Rattle.dsa_questions.specs.Reading.{question_onto, questions_said};
 ghost use Rattle.dsa_questions.specs.Verdicts.{outlook_of, fewest_from, first_broken, is_broken_by};
 ghost use Rattle.dsa_questions.specs.Words.{became_called, is_name, replied_called};
-ghost use Rattle.dsa_questions.specs.Worked.{aborted_at, any_of, asking, command_is, document_asking, entry_is};
+ghost use Rattle.dsa_questions.specs.Worked.{aborted_at, answered_so, any_of, asking, command_is};
+ghost use Rattle.dsa_questions.specs.Worked.{document_asking, entry_is, inquired, worked_names};
 ghost use Rattle.dsa_questions.specs.Worked.{explored_so, few_rows, worked_pair, question_about, question_named};
 
 /// What words say; a word of the other list, or one that begins so, says nothing.
@@ -160,13 +162,16 @@ pub fn of_alternatives()
 /// What a question is read as. Without a name it has that of its number.
 #[tactic(auto, unfolding(crate::specs::Worked::questions_on_literals))]
 pub fn of_questions()
-    ensures named { question_said Never two_labels three_acts 0
+    ensures named { question_onto Never worked_names (inquired [])
         (question_named (codes "m0 is lost") (entry_is (codes "y0") (codes "aborted")))
-        ≡ Some (asking Never (codes "m0 is lost") (aborted_at 1)) }
-    ensures unnamed { question_said Sometimes two_labels three_acts 12
+        ≡ Some (inquired (asking Never (codes "m0 is lost") (aborted_at 1) ∷ [])) }
+    ensures unnamed { question_onto Sometimes worked_names
+        (inquired (replicate 12 (asking Never [] [])))
         (question_about (entry_is (codes "y0") (codes "aborted")))
-        ≡ Some (asking Sometimes (codes "12") (aborted_at 1)) }
-    ensures bad { map (question_said Never two_labels three_acts 0)
+        ≡ Some
+        (inquired
+        (replicate 12 (asking Never [] []) ++ asking Sometimes (codes "12") (aborted_at 1) ∷ [])) }
+    ensures bad { map (question_onto Never worked_names (inquired []))
         (object_of ((codes "name", string (codes "m0")) ∷ [])
         ∷ object_of
         ((codes "name", null) ∷ (codes "that", entry_is (codes "y0") (codes "aborted")) ∷ [])
@@ -184,28 +189,29 @@ pub fn of_questions()
         ∷ []) ≡ replicate 9 None }
 {}
 
-/// Questions of documents: those of `never` come first. The first bad one is told, and what stands
-/// at `always` comes behind all others.
+/// Questions of documents: those of `never` come first, and those of `always` last. The first bad
+/// one is told.
 #[tactic(auto, unfolding(crate::specs::Worked::questions_on_literals))]
 pub fn of_documents()
-    ensures none { questions_said two_labels three_acts (object_of []) ≡ Ok [] }
-    ensures both { questions_said two_labels three_acts
+    ensures none { questions_said worked_names (object_of []) ≡ Ok (inquired []) }
+    ensures both { questions_said worked_names
         (document_asking
         (question_about (entry_is (codes "x0") (codes "aborted"))
         ∷ question_named (codes "lost") (entry_is (codes "y0") (codes "aborted")) ∷ [])
         (question_about (entry_is (codes "y0") (codes "aborted")) ∷ []) [])
         ≡ Ok
+        (inquired
         (asking Never (codes "0") (aborted_at 0)
         ∷ asking Never (codes "lost") (aborted_at 1)
         ∷ asking Sometimes (codes "2") (aborted_at 1)
-        ∷ []) }
-    ensures bad { map (questions_said two_labels three_acts)
+        ∷ [])) }
+    ensures bad { map (questions_said worked_names)
         (document_asking
         (question_about (entry_is (codes "x0") (codes "aborted")) ∷ null ∷ null ∷ []) (null ∷ [])
         []
         ∷ document_asking (question_about (entry_is (codes "x0") (codes "aborted")) ∷ [])
         (question_about null ∷ []) []
-        ∷ document_asking [] [] ((codes "always", listing []) ∷ [])
+        ∷ document_asking [] [] ((codes "always", listing (null ∷ [])) ∷ [])
         ∷ document_asking (question_about (entry_is (codes "x0") (codes "aborted")) ∷ []) []
         ((codes "always", null) ∷ [])
         ∷ object_of ((codes "never", null) ∷ [])
@@ -231,10 +237,12 @@ pub fn of_searches()
         (aborted_at 1 ∷ aborted_at 0 ∷ []) ≡ With 4 ∷ NotSoFar ∷ [] }
     ensures broken_never { map (is_broken_by Never) (With 4 ∷ InNoOrder ∷ NotSoFar ∷ [])
         ≡ true ∷ false ∷ false ∷ [] }
+    ensures broken_always { map (is_broken_by Always) (With 4 ∷ InNoOrder ∷ NotSoFar ∷ [])
+        ≡ true ∷ false ∷ false ∷ [] }
     ensures broken_sometimes { map (is_broken_by Sometimes) (With 4 ∷ InNoOrder ∷ NotSoFar ∷ [])
         ≡ false ∷ true ∷ false ∷ [] }
     ensures first { (memory : Global)
-        → map (λ questions. first_broken questions (explored_so memory true))
+        → map (λ questions. first_broken (answered_so (explored_so memory true) questions))
         ([]
         ∷ (asking Never [] (aborted_at 0) ∷ asking Sometimes [] (aborted_at 1) ∷ [])
         ∷ (asking Never [] (aborted_at 0) ∷ asking Never [] (aborted_at 1)
@@ -243,7 +251,7 @@ pub fn of_searches()
         ∷ [])
         ≡ None ∷ None ∷ Some 1 ∷ Some 0 ∷ [] }
     ensures first_bounded { (memory : Global)
-        → map (λ questions. first_broken questions (explored_so memory false))
+        → map (λ questions. first_broken (answered_so (explored_so memory false) questions))
         ((asking Sometimes [] (aborted_at 0) ∷ asking Never [] (aborted_at 1) ∷ [])
         ∷ (asking Sometimes [] (aborted_at 0) ∷ [])
         ∷ [])
@@ -255,18 +263,21 @@ pub fn of_searches()
 pub fn of_lines()
     ensures nevers { map (verdict_words Never) (With 4 ∷ InNoOrder ∷ NotSoFar ∷ [])
         ≡ codes "broken" ∷ codes "kept" ∷ codes "kept so far" ∷ [] }
+    ensures always { map (verdict_words Always) (With 4 ∷ InNoOrder ∷ NotSoFar ∷ [])
+        ≡ codes "broken" ∷ codes "kept" ∷ codes "kept so far" ∷ [] }
     ensures others { map (verdict_words Sometimes) (With 12 ∷ InNoOrder ∷ NotSoFar ∷ [])
         ≡ codes "kept" ∷ codes "broken" ∷ codes "not seen so far" ∷ [] }
     ensures steps { map steps_words (With 12 ∷ InNoOrder ∷ NotSoFar ∷ [])
         ≡ codes " [12]" ∷ [] ∷ [] ∷ [] }
     ensures lines { (memory : Global)
         → question_lines
+        (answered_so (explored_so memory true)
         (asking Never (codes "m0 is lost") (aborted_at 1) ∷ asking Never (codes "1") (aborted_at 0)
-        ∷ asking Sometimes (codes "it waits") (Wait 0 0 ∷ []) ∷ [])
-        (explored_so memory true)
+        ∷ asking Sometimes (codes "it waits") (Wait 0 0 ∷ []) ∷ []))
         ≡ codes "never m0 is lost: broken [4]\nnever 1: kept\nsometimes it waits: kept [2]\n" }
     ensures table { (memory : Global)
-        → text_with_answers (codes "x0" ∷ []) [] (asking Sometimes (codes "0") (aborted_at 0) ∷ [])
+        → text_with_answers (codes "x0" ∷ []) []
+        (answered_so (explored_so memory false) (asking Sometimes (codes "0") (aborted_at 0) ∷ []))
         (explored_so memory false)
         ≡ codes "x0: completed 01 [3]\nsometimes 0: not seen so far\n"
         ++ codes "34 states, 134 steps, depth 8, bounded\n" }

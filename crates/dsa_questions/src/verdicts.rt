@@ -1,12 +1,13 @@
 //! What a search says of questions.
 
-ghost use Rattle.std.specs.Prelude.{◌≡◌, map, Some, None};
-ghost use Rattle.dsa_questions.specs.Reading.{question_asked};
-ghost use Rattle.dsa_questions.specs.Verdicts.{outlook_of, fewer, fewest_from, first_broken, is_broken};
-ghost use Rattle.dsa_questions.specs.Verdicts.{is_broken_by};
+ghost use Rattle.std.specs.Prelude.{◌≡◌, map, None};
+ghost use Rattle.dsa_questions.specs.Reading.{question_asked, wanted_said};
+ghost use Rattle.dsa_questions.specs.Told.{as_answer};
+ghost use Rattle.dsa_questions.specs.Verdicts.{answer_with, comes_by, outlook_by, outlook_of, fewer, fewest_from};
+ghost use Rattle.dsa_questions.specs.Verdicts.{first_broken, is_broken_by};
 
 use crate::asked::is_row_asked;
-use crate::question::{Condition, Kind, Question};
+use crate::question::{Condition, Kind, Question, Sought};
 use dsa_explore::{Explored, Found};
 
 /// Whether what a question asks for comes in some order.
@@ -30,8 +31,8 @@ fn fewer(least: Option<u32>, steps: u32) -> u32
     }
 }
 
-// The fewest steps of a row that is asked for.
-fn fewest(conditions: &[Condition], rows: &[Found]) -> Option<u32>
+/// The fewest steps of a row that is asked for.
+pub fn fewest(conditions: &[Condition], rows: &[Found]) -> Option<u32>
     ensures { result ≡ fewest_from conditions.now None rows.now }
 {
     let mut least = None;
@@ -43,48 +44,80 @@ fn fewest(conditions: &[Condition], rows: &[Found]) -> Option<u32>
     least
 }
 
+// Whether what is asked for comes, by the fewest steps with which it was found, and by whether all
+// was tried.
+fn comes_by(is_complete: bool, least: Option<u32>) -> Outlook
+    ensures { result ≡ comes_by is_complete least }
+{
+    match least {
+        Some(steps) => Outlook::With(steps),
+        None if is_complete => Outlook::InNoOrder,
+        None => Outlook::NotSoFar,
+    }
+}
+
 /// Whether one of the conditions comes, by what a search found.
 pub fn outlook_of(conditions: &[Condition], explored: &Explored) -> Outlook
     ensures { result ≡ outlook_of conditions.now explored.now }
 {
-    match fewest(conditions, explored.rows.as_slice()) {
-        Some(steps) => Outlook::With(steps),
-        None => {
-            if explored.is_complete {
-                Outlook::InNoOrder
-            } else {
-                Outlook::NotSoFar
-            }
-        }
-    }
+    comes_by(
+        explored.is_complete,
+        fewest(conditions, explored.rows.as_slice()),
+    )
 }
 
-// Whether what must never come comes, or what has to come in some order comes in none.
+// Whether what must never come comes, what has to hold always does not, or what has to come in
+// some order comes in none.
 fn is_broken_by(kind: Kind, outlook_of: Outlook) -> bool
     ensures { result ≡ is_broken_by kind outlook_of }
 {
     matches!(
         (kind, outlook_of),
-        (Kind::Never, Outlook::With(_)) | (Kind::Sometimes, Outlook::InNoOrder)
+        (Kind::Never | Kind::Always, Outlook::With(_)) | (Kind::Sometimes, Outlook::InNoOrder)
     )
 }
 
-// Whether the search breaks the question.
-fn is_broken(explored: &Explored, question: &Question) -> bool
-    ensures { result ≡ is_broken explored.now (question_asked question.now) }
-{
-    is_broken_by(
-        question.kind,
-        outlook_of(question.conditions.as_slice(), explored),
-    )
+// ---- answers
+
+/// A question with what is said of it.
+#[derive(Clone, Copy)]
+pub struct Answered<'a> {
+    pub kind: Kind,
+    pub name: &'a str,
+    pub outlook: Outlook,
 }
 
-/// The number of the first question that the search breaks.
-pub fn first_broken(questions: &[Question], explored: &Explored) -> Option<u64>
-    ensures { result ≡ first_broken (map question_asked questions.now) explored.now }
+// Whether one of the conditions comes, or such a state does, which these are the fewest steps to.
+fn outlook_by(explored: &Explored, sought: &Sought, met: Option<u32>) -> Outlook
+    ensures { result ≡ outlook_by explored.now (wanted_said sought.now) met }
 {
-    for (number, question) in questions.iter().enumerate() {
-        if is_broken(explored, question) {
+    match sought {
+        Sought::Rows(conditions) => outlook_of(conditions.as_slice(), explored),
+        Sought::States(_) => comes_by(explored.is_complete, met),
+    }
+}
+
+/// What a search says of a question, with these fewest steps to a state that it asks for.
+pub fn answer_with<'a>(
+    explored: &Explored,
+    question: &'a Question,
+    met: Option<u32>,
+) -> Answered<'a>
+    ensures { as_answer result ≡ answer_with explored.now (question_asked question.now) met }
+{
+    Answered {
+        kind: question.kind,
+        name: question.name.as_str(),
+        outlook: outlook_by(explored, &question.sought, met),
+    }
+}
+
+/// The number of the first question that is broken.
+pub fn first_broken(answers: &[Answered<'_>]) -> Option<u64>
+    ensures { result ≡ first_broken (map as_answer answers.now) }
+{
+    for (number, answer) in answers.iter().enumerate() {
+        if is_broken_by(answer.kind, answer.outlook) {
             return Some(number as u64);
         }
     }

@@ -3,9 +3,11 @@
 ghost use Rattle.std.specs.Prelude.{◌≡◌};
 ghost use Rattle.std.specs.List.{list_all};
 ghost use Rattle.dsa_named.specs.Names.{is_own_character};
-ghost use Rattle.dsa_questions.specs.Words.{became_called, is_name, replied_called};
+ghost use Rattle.dsa_questions.specs.Words.{became_called, being_called, is_name, phase_called, replied_called};
 
+use dsa_formulas::Being;
 use dsa_parties::{Became, Replied};
+use dsa_regs::Phase;
 
 /// What becomes of an entry, by this word.
 pub fn became_called(word: &str) -> Option<Became>
@@ -36,6 +38,29 @@ pub fn replied_called(word: &str) -> Option<Replied>
         "nothing" => Some(Replied::Nothing),
         "written" => Some(Replied::Written),
         "cleared" => Some(Replied::Cleared),
+        _ => None,
+    }
+}
+
+/// How an entry is held, by this word.
+pub fn being_called(word: &str) -> Option<Being>
+    ensures { result ≡ being_called word.now }
+{
+    match word {
+        "held" => Some(Being::Held),
+        "waiting" => Some(Being::Waiting),
+        _ => None,
+    }
+}
+
+/// The phase of this word.
+pub fn phase_called(word: &str) -> Option<Phase>
+    ensures { result ≡ phase_called word.now }
+{
+    match word {
+        "off" => Some(Phase::Off),
+        "on" => Some(Phase::On),
+        "stopping" => Some(Phase::Stopping),
         _ => None,
     }
 }

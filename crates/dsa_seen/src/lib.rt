@@ -8,8 +8,6 @@ ghost use Rattle.dsa_seen.specs.Table.{IsInserted, HasOneNumberEach};
 
 mod chains;
 pub mod rows;
-#[cfg(test)]
-mod tests;
 
 use chains::Chains;
 use std::alloc::{AllocError, Global};

@@ -12,7 +12,7 @@ ghost use Rattle.dsa_book.specs.declared.event.Event.TheVariants as event;
 ghost use Rattle.dsa_book.specs.declared.fate.Fate.TheVariants.{Abandoned, Completed};
 ghost use Rattle.dsa_device.specs.Running.{running_at_first};
 ghost use Rattle.dsa_shared.specs.Compare.{DiffersFirstAt};
-ghost use Rattle.dsa_shared.specs.Locked.{IsAnsweredFor, IsReadOf, IsUnderLock};
+ghost use Rattle.dsa_shared.specs.Locked.{IsAdminStep, IsAnsweredFor, IsReadOf, IsUnderLock};
 ghost use Rattle.dsa_shared.specs.Seat.{client_of, engine_of_seat, fresh, no_caps, number_of_seat, receipts_of, with_receipt, AllFresh};
 ghost use Rattle.dsa_shared.specs.Settle.{over_seats, AgreeSoFar, AllMatch, FirstMismatch, HasEach, IsComplete, IsFirstMismatch, Match};
 ghost use Rattle.dsa_shared.specs.Totals.{totals_of, Balance};
@@ -82,6 +82,8 @@ pub fn answers_under_a_lock()
     ensures of_none { ¬ IsAnsweredFor caps 1048577 [] event.Poll (reply.Poll Full) }
     ensures older { ¬ IsAnsweredFor caps 0 (question Nothing ∷ []) event.Poll (reply.Poll Full) }
     ensures other_reply { ¬ IsAnsweredFor caps 0 [] event.Poll (reply.Poll Nothing) }
+    ensures of_no_administrator { ¬ IsAdminStep caps 1048577 [] (question Full ∷ []) event.Poll
+        (reply.Poll Full) }
 {}
 
 /// One of each number below the count, and no other.

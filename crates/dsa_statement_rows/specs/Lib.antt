@@ -1,1 +1,3 @@
 pub mod Searches
+pub mod RandomWalks
+pub mod Standings

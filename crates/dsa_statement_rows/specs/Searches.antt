@@ -1,6 +1,6 @@
 -- Spaces, worlds and tables of searches that the rows speak of.
 use Rattle.std.specs.Prelude.{ℕ, Bool, [], ◌∷◌, false, Option, None}
-use Rattle.dsa_book.specs.declared.event.Kind.TheVariants.{Movdir64b}
+use Rattle.dsa_book.specs.declared.{event.Kind.TheVariants.{Movdir64b}, note.BatchNote.{BatchNote}}
 use Rattle.dsa_keys.specs.{Parties.{Parties, World, Stored}, Short.{Descriptions}}
 use Rattle.dsa_parties.specs.declared.places.Move.{Move}
 use Rattle.dsa_explore.specs.declared.{found.Ask.{Ask}, stored.{Node.{Node}, Try.{Try}}}
@@ -41,3 +41,7 @@ stored_at level w = record { level = level; world = w }
 -- the node of a world at this level, to which this try leads from the world of that number
 abbrev pub node_from : ℕ → Try → ℕ → Node
 node_from parent tried level = record { parent = parent; tried = tried; level = level }
+
+-- the note of a batch with name 0, of which no member was fetched yet
+abbrev pub note_of_a_new_batch : BatchNote
+note_of_a_new_batch = record { batch = 0; count = 2; fetched = 0; failed = false; closed = false }

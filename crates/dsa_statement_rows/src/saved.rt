@@ -1,6 +1,7 @@
 //! Why no device is made of bytes: the first that fails, with all that comes before it.
 
-ghost use Rattle.std.specs.Prelude.{◌≡◌, ℕ, [], List, Some, codes, slice_index};
+ghost use Rattle.std.specs.Prelude.{◌≡◌, ℕ, ◌++◌, [], List, Some, codes, slice_index};
+ghost use Rattle.sha2.specs.Sha256.{sha256};
 ghost use Rattle.dsa_device.specs.Running.{Running, after_answer};
 ghost use Rattle.dsa_saved.specs.Faults.{HasCaps, HasChecksum, HasLength, HasMagic, HasStart, HasVersion};
 ghost use Rattle.dsa_saved.specs.Faults.{IsLoadFault, IsLong, IsOtherStep, IsStartFault, header_in};
@@ -19,6 +20,11 @@ pub fn starts_with_a_fault()
         → IsStartFault BadCapacity bytes }
     ensures too_large { (bytes : List ℕ) → slice_index (header_in bytes) 9 ≡ 1_048_577
         → ¬ HasStart bytes }
+{}
+
+/// Bytes that end with the checksum of those before it have it.
+pub fn checksums_behind_bytes()
+    ensures has { (body : List ℕ) → HasChecksum (body ++ sha256 body) }
 {}
 
 /// A record makes no step only after a start without a fault, and its device answers its event.

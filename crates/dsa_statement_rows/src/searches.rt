@@ -1,33 +1,47 @@
 //! Worlds and tables of a search, the ways to its worlds, and what it met.
 
-ghost use Rattle.std.specs.Prelude.{◌≡◌, ℕ, ◌≤◌, ◌∷◌, [], List, Some, take, true, false};
+ghost use Rattle.std.specs.Prelude.{◌≡◌, ℕ, ◌≤◌, ◌∷◌, [], List, Some, map, take, true, false};
 ghost use Rattle.std.specs.declared.alloc.Global.{Global};
+ghost use Rattle.dsa_base.specs.Lists.{In};
+ghost use Rattle.dsa_regs.specs.declared.Caps.{Caps};
 ghost use Rattle.dsa_book.specs.State.{State};
+ghost use Rattle.dsa_book.specs.Work.{qualifies};
 ghost use Rattle.dsa_book.specs.declared.answer.DispatchAnswer.TheVariants.{Taken};
 ghost use Rattle.dsa_book.specs.declared.answer.Reply.{Reply};
 ghost use Rattle.dsa_book.specs.declared.answer.Reply.TheVariants as reply;
+ghost use Rattle.dsa_book.specs.declared.event.Event.{Event};
+ghost use Rattle.dsa_book.specs.declared.event.Step.{Step};
+ghost use Rattle.dsa_device.specs.Running.{running_at_first};
 ghost use Rattle.dsa_keys.specs.Labels.{Labels};
-ghost use Rattle.dsa_keys.specs.Parties.{Parties, World, Stored, world_after};
-ghost use Rattle.dsa_parties.specs.declared.places.Move.{Move};
-ghost use Rattle.dsa_parties.specs.Offers.{label_ticket};
+ghost use Rattle.dsa_key_bytes.specs.KeyBytes.{key_bytes};
+ghost use Rattle.dsa_keys.specs.Short.{short_key};
+ghost use Rattle.dsa_keys.specs.Parties.{Offer, Parties, World, Stored, offer_at, world_after, world_after_all};
+ghost use Rattle.dsa_parties.specs.declared.places.Move.{Move, TheVariants.{Dispatch}};
+ghost use Rattle.dsa_parties.specs.declared.script.Script.{Script};
+ghost use Rattle.dsa_parties.specs.Offers.{label_ticket, parties_of};
+ghost use Rattle.dsa_parties.specs.Standing.{Standing};
 ghost use Rattle.dsa_parties.specs.Worked.{all_at, place_at};
 ghost use Rattle.dsa_explore.specs.declared.found.Explored.{Explored};
+ghost use Rattle.dsa_explore.specs.declared.found.Finding.{Finding};
 ghost use Rattle.dsa_explore.specs.declared.halting.Halt.TheVariants.{Steps};
 ghost use Rattle.dsa_explore.specs.declared.stored.Search.{Search};
 ghost use Rattle.dsa_explore.specs.declared.stored.Try.{Try};
+ghost use Rattle.dsa_explore.specs.declared.walked.Walked.{Walked};
 ghost use Rattle.dsa_explore.specs.Counted.{IsKeyReached};
 ghost use Rattle.dsa_explore.specs.Ends.{IsLed};
 ghost use Rattle.dsa_explore.specs.Halting.{IsMet};
 ghost use Rattle.dsa_explore.specs.Keys.{world_bytes};
-ghost use Rattle.dsa_explore.specs.Search.{Space, IsFine, IsKeyOf, IsStepNoted, IsWorldTable};
-ghost use Rattle.dsa_explore.specs.Stored.{IsStoredAt};
+ghost use Rattle.dsa_explore.specs.Schedules.{IsEventKept};
+ghost use Rattle.dsa_explore.specs.Search.{Space, AreRows, IsFine, IsStoredWorld, IsKeyOf, IsStepNoted, IsWorldTable};
+ghost use Rattle.dsa_explore.specs.{Ready.{is_filled}, Stored.{node_levels, IsStoredAt}};
 ghost use Rattle.dsa_explore.specs.Trying.{HasRoomBehind, IsExpandedAt, IsSearch};
-ghost use Rattle.dsa_explore.specs.Walked.{NeedsDepth};
-ghost use Rattle.dsa_explore.specs.Ways.{AreTold, IsNodeTo, TellWays};
+ghost use Rattle.dsa_explore.specs.Tries.{ListsMove};
+ghost use Rattle.dsa_explore.specs.Walked.{NeedsDepth, world_of};
+ghost use Rattle.dsa_explore.specs.Ways.{AreByLevel, AreTold, IsNodeTo, IsTakenStep, TellWays};
 ghost use Rattle.dsa_explore.specs.WorkedEnds.{polling_parties, still_script};
-ghost use Rattle.dsa_explore.specs.WorkedSearch.{quiet_world};
+ghost use Rattle.dsa_explore.specs.WorkedSearch.{quiet_world, uneven_caps};
 ghost use Rattle.dsa_explore.specs.WorkedSetup.{caps_without_engines};
-ghost use Rattle.dsa_seen.specs.Chains.{IsChained, strings_of};
+ghost use Rattle.dsa_seen.specs.Chains.{IsChained, IsLatest, strings_of};
 ghost use Rattle.dsa_seen.specs.declared.chains.Chains.{Chains};
 ghost use Rattle.dsa_statement_rows.specs.Searches.{still_asks, still_parties, still_space, stored_at, node_from};
 
@@ -40,6 +54,22 @@ pub fn worlds_of_a_search()
         → IsWorldTable space w ((7 ∷ []) ∷ []) (0 ∷ []) 0 (stored_at 0 w ∷ []) }
     ensures no_begin { (search : Search)
         → ¬ IsSearch (still_space true) (quiet_world []) search [] }
+{}
+
+/// A table of worlds has no level behind the place of its world, each world of it is stored so, and
+/// what an expanded world leaves is a search; a finding has one row.
+pub fn tables_of_a_search()
+    ensures too_high { (w : World ℕ) → ¬ AreByLevel (stored_at 1 w ∷ []) }
+    ensures stored { (space : Space ℕ Move) (first : World ℕ) (keys : List (List ℕ))
+        (levels : List ℕ) (x : Stored ℕ) (table : IsWorldTable space first keys levels 9 (x ∷ []))
+        → IsStoredWorld space first x }
+    ensures expanded { (space : Space ℕ Move) (first : World ℕ) (old new : Search)
+        (table : List (Stored ℕ)) (x : Stored ℕ)
+        (is : IsExpandedAt space first old table 0 x new)
+        → IsSearch space first new is.more }
+    ensures two_rows { (space : Space ℕ Move) (first : World ℕ) (finding : Finding)
+        → ¬ AreRows space first 9
+        (record { finding = finding; steps = 3 } ∷ record { finding = finding; steps = 4 } ∷ []) }
 {}
 
 /// After a set-up of so many events a history has room for one step after level 4, and for none
@@ -101,6 +131,8 @@ pub fn tries_that_lead_on()
         → world_after parties w by (reply.Dispatch (Taken (label_ticket 7) 3)) ≡ Some w'
         → IsLed parties w (record { by = by; queue = Some 3 }) w' }
     ensures nowhere { (w w' : World ℕ) (tried : Try) → ¬ IsLed still_parties w tried w' }
+    ensures no_step { (w w' : World ℕ) (tried : Try)
+        → ¬ IsTakenStep (still_space true) w tried w' }
 {}
 
 /// A search met the bound of steps where a history has no room for one more; a key is reached with
@@ -117,6 +149,20 @@ pub fn bounds_that_were_met()
         → ¬ NeedsDepth caps_without_engines (still_script memory) [] explored }
 {}
 
+/// A dispatch is tried with each queue that the engine may take from; devices whose steps are kept
+/// are where the moves lead.
+pub fn moves_that_are_tried()
+    ensures queue { (script : Script) (walked : Walked) (tries : List Try) (offer : Offer)
+        → ListsMove script walked tries (Dispatch 0)
+        → offer_at (parties_of script) (world_of walked) (Dispatch 0) ≡ Some offer
+        → qualifies walked.machine.device.state.work 0 3 ≡ true
+        → In (record { by = Dispatch 0; queue = Some 3 }) tries }
+    ensures leads { (caps : Caps) (script : Script) (setup : List Event) (capacity count : ℕ)
+        (steps : List Step) (walked : Walked)
+        (kept : IsEventKept caps script setup capacity count steps walked)
+        → world_after_all (parties_of script) kept.first kept.moves ≡ Some (world_of walked) }
+{}
+
 /// The bytes of a world begin with those of where its parties stand.
 #[tactic(auto, unfolding(dsa_key_bytes::specs::Numbers::number_bytes))]
 pub fn bytes_of_worlds()
@@ -127,8 +173,29 @@ pub fn bytes_of_worlds()
     })) ≡ 2 ∷ 0 ∷ 3 ∷ 4 ∷ 2 ∷ 2 ∷ 1 ∷ 172 ∷ 2 ∷ [] }
 {}
 
+/// A string of another place is not the latest of a place.
+#[tactic(auto, unfolding(dsa_seen::specs::Chains::hash, dsa_seen::specs::Chains::place_among))]
+pub fn strings_of_other_places()
+    ensures first { ¬ IsLatest 7 ((97 ∷ []) ∷ (98 ∷ []) ∷ (100 ∷ []) ∷ []) 4 1 1 }
+{}
+
 /// A string that is stored twice is in no chains.
 pub fn chains_of_strings()
     ensures twice { (chains : Chains) → strings_of chains ≡ (7 ∷ []) ∷ (7 ∷ []) ∷ []
         → ¬ IsChained chains }
+{}
+
+/// The levels of nodes, and devices whose histories are full.
+pub fn nodes_and_histories()
+    ensures levels { (search : Search) (tried : Try)
+        → search.nodes.items ≡ node_from 1 tried 2 ∷ [] → node_levels search ≡ 2 ∷ [] }
+    ensures filled { map (λ capacity. is_filled (running_at_first uneven_caps capacity))
+        (0 ∷ 9 ∷ []) ≡ true ∷ false ∷ [] }
+{}
+
+/// Where the parties of two worlds stand alike, the bytes of the worlds are equal only if those of
+/// their keys are.
+pub fn bytes_of_keys_in_worlds()
+    ensures { (w v : World Standing) → w.places ≡ v.places → world_bytes w ≡ world_bytes v
+        → key_bytes (short_key w.labels w.state) ≡ key_bytes (short_key v.labels v.state) }
 {}

@@ -5,7 +5,8 @@
 //! how far the search came. [`add_lines`] and [`add_search`] add these parts alone. A finding that
 //! may come has its steps in brackets: `x0: accepted [1], completed 01 [3]`. [`row_named`] finds a
 //! row by what stands before its steps. [`add_objects`] and [`add_search_object`] add the same as
-//! JSON objects, one in each line.
+//! JSON objects, one in each line. [`add_walks`] and [`add_walks_object`] add how many random walks
+//! were made in place of how far a search came.
 #![tactic(auto)]
 
 pub mod end_rows;
@@ -18,9 +19,11 @@ pub mod part_rows;
 mod parts;
 pub mod row_names;
 pub mod rows;
+mod samples;
 mod table;
 mod words;
 
 pub use naming::row_named;
 pub use objects::{add_objects, add_search_object};
+pub use samples::{add_walks, add_walks_object};
 pub use table::{add_lines, add_search, add_table};

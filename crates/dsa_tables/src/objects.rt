@@ -121,8 +121,8 @@ pub fn add_objects(
     add_end_objects(text, labels, acts, &explored.ends)
 }
 
-// Adds a key and how many there are.
-fn add_long_number(text: &mut String, key: &str, count: u64) -> Added
+/// Adds a key and how many there are.
+pub fn add_long_number(text: &mut String, key: &str, count: u64) -> Added
     ensures { Adds result text.old text.new (key.now ++ decimal count) }
 {
     let mut buffer = Buffer::new();

@@ -366,7 +366,8 @@ class Changes:
         simple = not (node.kind == "operator" and node.value[0] in ("&&", "||"))
         is_negation = node.kind == "apply" and self.of(node.parts[0]) == "not"
         is_choice = node.kind == "if" or node.kind == "apply" and self.of(node.parts[0]) in ("cond",)
-        if simple and not is_negation and not is_choice and self.of(node) not in ("true", "false"):
+        is_text = node.kind == "apply" and self.of(node.parts[0]) == "codes"
+        if simple and not (is_negation or is_choice or is_text) and self.of(node) not in ("true", "false"):
             change = self.replaced("negation", node, f"(not ({self.of(node)}))", ["not"])
             change.new = f"not ({shown(self.of(node))})"
             if all(it.edits != change.edits for it in found):

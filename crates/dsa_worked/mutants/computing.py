@@ -9,54 +9,10 @@ import shutil
 import sys
 
 from definitions import Module, Node, Unknown, names_used, term_of
+from values import NONE, UNFIT, Any, Lacking, Made, Part, Samples, Stuck
+from values import all_over, any_over, cut_off, fronts_of, grown_by, some, with_field
 
 sys.setrecursionlimit(20000)
-
-
-class Stuck(Exception):
-    """What cannot be computed here."""
-
-
-class Lacking(Exception):
-    """A field that a record does not have."""
-
-
-class Part(dict):
-    """A record of which not all fields are there."""
-
-
-class Made:
-    """A constructor with its arguments."""
-
-    __slots__ = ("name", "arguments")
-
-    def __init__(self, name, arguments=()):
-        self.name, self.arguments = name, arguments
-
-    def __call__(self, argument):
-        return Made(self.name, (*self.arguments, argument))
-
-    def __eq__(self, other):
-        return isinstance(other, Made) and self.name == other.name and self.arguments == other.arguments
-
-    def __repr__(self):
-        return f"({self.name} {self.arguments})" if self.arguments else self.name
-
-
-class Any:
-    """What is the same as any value: with it a row computes that there is no state of which something holds."""
-
-    def __eq__(self, other):
-        return True
-
-    __hash__ = None
-
-
-NONE = Made("None")
-
-
-def some(x):
-    return Made("Some", (x,))
 
 
 def same(a, b):
@@ -231,6 +187,48 @@ def passes_all(test, xs, ys):
     return len(xs) == len(ys) and all(test(x)(y) for x, y in zip(xs, ys))
 
 
+def is_utf8(xs):
+    """Whether bytes are a text."""
+    try:
+        return bytes(xs).decode() is not None
+    except ValueError:
+        return False
+
+
+def no_number(text):
+    raise ValueError(text)
+
+
+def data_of(value):
+    """A JSON value as definitions have it."""
+    if value is None or isinstance(value, bool):
+        return Made("null") if value is None else Made("boolean", (value,))
+    if isinstance(value, float) or isinstance(value, int) and not -2 ** 63 <= value < 2 ** 64:
+        return Made("number", (Made("float", (value,)),))
+    if isinstance(value, int):
+        return Made("number", (Made("unsigned", (value,)) if value >= 0 else Made("negative", (signed(value),)),))
+    if isinstance(value, str):
+        return Made("string", (list(value.encode()),))
+    if isinstance(value, list):
+        return Made("array", (items_of([data_of(it) for it in value]),))
+    members = functools.reduce(lambda found, it: members_with(list(it[0].encode()), data_of(it[1]), found), value, Made("no_members"))
+    return Made("object", (members,))
+
+
+def read_json(xs):
+    """What bytes are as JSON, or nothing."""
+    try:
+        text = bytes(xs).decode()
+        if "-0" in text or text.count("[") + text.count("{") > 100:
+            raise Stuck("JSON of another kind")
+        found = json.JSONDecoder(object_pairs_hook=tuple, parse_constant=no_number).decode(text) if text.isascii() else None
+    except ValueError:
+        return NONE
+    if not text.isascii():
+        raise Stuck("JSON that is not ASCII")
+    return some(data_of(found))
+
+
 def edits(xs, ys):
     """The table of edits between two names, of which the last row is looked at: a character more, less or changed, or two beside
     each other exchanged."""
@@ -307,6 +305,11 @@ LIBRARY = {
     "number_text": (1, in_json_digits), "sha256": (1, lambda bs: list(hashlib.sha256(bytes(bs)).digest())), "string_bytes": (1, text_of),
     "is_ascii_hexdigit": (1, lambda c: 48 <= c <= 57 or 65 <= c <= 70 or 97 <= c <= 102),
     "suffix_len": (2, lambda f, xs: first_place(lambda x: not f(x), xs[::-1])),
+    "IsUtf8": (1, is_utf8), "AllPairs": (2, lambda f, xs: all(f(x)(y) for i, x in enumerate(xs) for y in xs[i + 1:])),
+    "HoldsAt": (3, lambda f, xs, i: i < len(xs) and f(xs[i])), "AllByRecursion": (2, lambda f, xs: all(map(f, xs))),
+    "IsSome": (1, lambda x: x.name == "Some"), "IsNone": (1, lambda x: x.name == "None"),
+    "IsErrOf": (2, lambda r, e: r == Made("Err", (e,))),
+    "neg_ℤ": (1, lambda z: signed(-as_int(z))), "vec_len": (1, lambda v: len(v["items"])), "read": (1, read_json),
     "IsTrue": (1, lambda a: a), "Contains": (2, lambda xs, x: x in xs),
     "IsSomeAnd": (2, lambda x, f: x.name == "Some" and f(x.arguments[0])),
     "IfSome": (2, lambda x, f: x.name == "None" or f(x.arguments[0])),
@@ -387,16 +390,71 @@ def applied(f, *arguments):
     return f
 
 
+def settled(values, said):
+    """These values, each with what is said of it."""
+    for path, value in said:
+        if path == ["length"]:
+            values = [[49] * value()]
+        elif not path:
+            values = [value()]
+        else:
+            values = [with_field(it, path, value()) for it in values]
+    return values
+
+
+def candidates(computer, kind, asked, known, most):
+    """Values that are asked for, and of numbers and of types of the code some others."""
+    found, head, computer.samples.are_used = [], kind.split(" ")[0], True
+    for it in asked:
+        try:
+            found += it()
+        except UNFIT:
+            pass
+    if head in OF_FIELDS or head in SOME_OF or head in CHOICES or head in MARKS:
+        return [*found, *some_of(head, known())]
+    try:
+        return (found + computer.samples.of(kind, most))[:40]
+    except Stuck:
+        if not found:
+            raise
+        return found[:40]
+
+
+def space_of(computer):
+    """What the code of a definition or of a row may name."""
+    return {
+        "Stuck": Stuck, "Made": Made, "C": computer, "L": LIBRARY, "V": VALUES, "curried": curried, "applied": applied,
+        "same": same, "field": field_of, "record": dict, "then": then, "SOME_OF": SOME_OF, "some_of": some_of, "ANY": Any(),
+        "all_over": all_over, "any_over": any_over, "settled": settled, "candidates": candidates, "cut_off": cut_off,
+        "grown_by": grown_by, "fronts_of": fronts_of,
+    }
+
+
 class Computer:
     """Modules whose definitions are computed. A mutant takes the place of one module for a while."""
 
-    def __init__(self, modules):
-        self.modules = modules
+    def __init__(self, modules, types):
+        self.modules, self.samples = modules, Samples(types, self.constants)
         self.reached, self.values, self.known = set(), {}, {}
         self.code, self.basic, self.kit = {}, {}, {}
         for module in modules.values():
             self.load(module, self.code)
         self.basic = dict(self.code)
+
+    @functools.lru_cache(maxsize=None)
+    def constants(self, kind):
+        """What definitions without arguments have that are of this type."""
+        found, reached = [], self.reached
+        self.reached = set()
+        for module in self.modules.values():
+            for it in module.definitions.values():
+                is_one = it.kind == "value" and it.type.kind == "name" and it.type.value == kind and len(it.clauses) == 1
+                try:
+                    found += [self.value((module.crate, module.name, it.name))] if is_one and not it.clauses[0].patterns else []
+                except (*UNFIT, Lacking, SyntaxError):
+                    pass
+        self.reached = reached
+        return found[:10]
 
     def load(self, module, code):
         for it in module.definitions.values():
@@ -475,6 +533,11 @@ class Computer:
         if parts[0] != "Rattle" or parts[2] != "specs" or crate.startswith("dsa_") or "declared" in place:
             return None
         module = self.kit.setdefault((crate, *place), self.kit_module(crate, place))
+        for path in module.uses.get(name, []) if module and name not in module.definitions else []:
+            if path != ".".join(parts) and path.split(".")[-1] == name:
+                found = self.of_the_kit(path.split("."))
+                if found:
+                    return found
         if module is None or name not in module.definitions:
             made = module and any(name == label for it in module.definitions.values() if it.kind == "data" for label, *_ in it.fields)
             return ("made", name) if made else None
@@ -531,10 +594,7 @@ class Defined:
             body = writer.term(clause.body, local)
             lines.append(f"    if {' and '.join(tests) or 'True'}: return {body}")
         lines.append(f"    raise Stuck('no clause of {self.definition.name}')")
-        space = {
-            "Stuck": Stuck, "Made": Made, "C": self.computer, "L": LIBRARY, "V": VALUES, "curried": curried,
-            "applied": applied, "same": same, "field": field_of, "record": dict, "then": then, "SOME_OF": SOME_OF,
-        }
+        space = space_of(self.computer)
         exec("\n".join(lines), space)
         return self.computer.once(self.key, space["it"]) if self.key in AGAIN else space["it"]
 
@@ -543,19 +603,20 @@ class Defined:
         """Of a record whose fields say something: whether all of it holds, of some values where fields are values."""
         names = [f"a{i}" for i in range(self.arity)]
         local = dict(zip(self.definition.parameters, names))
-        parts, given = [], f"({''.join(it + ', ' for it in names)})"
+        parts = []
         for label, node, *_ in self.definition.fields:
             if is_type(node):
+                values = self.values_for(writer, label, node, local)
                 local[label] = f"v{len(local)}"
-                kind = node.value if node.kind == "name" else node.parts[0].value
-                parts.append((local[label], f"some_of({kind!r}, {given})"))
+                parts.append((local[label], values))
             else:
                 parts.append((None, writer.term(node, local)))
-        space = {
-            "Stuck": Stuck, "Made": Made, "C": self.computer, "L": LIBRARY, "V": VALUES, "curried": curried,
-            "applied": applied, "same": same, "field": field_of, "then": then, "SOME_OF": SOME_OF, "some_of": some_of,
-        }
+        space = space_of(self.computer)
         return eval(f"lambda {', '.join(names)}: {self.tested(parts)}", space)
+
+    def values_for(self, writer, label, node, local):
+        """Code of the values that are tried for a field."""
+        return writer.found_for(label, node, [it for _, it, *_ in self.definition.fields], local)
 
     def tested(self, parts):
         """Each test as soon as its values are there."""
@@ -604,11 +665,16 @@ PLAIN = {
 }
 
 
+# The types of which what is around has values.
+OF_FIELDS = {"ℕ", "List", "HeldEntry", "Ticket", "ActiveCommand"}
+
+
 def is_type(node):
     """Whether a field has a value, and says nothing."""
     if node.kind == "apply":
-        return node.parts[0].kind == "name" and node.parts[0].value == "List"
-    return node.kind == "name" and node.value not in VALUES
+        return node.parts[0].kind == "name" and node.parts[0].value in ("List", "Option", "Vec", "Result")
+    return node.kind == "name" and node.value not in VALUES or node.kind == "operator" and node.value[0] == "×" and all(
+        map(is_type, node.parts))
 
 
 def inside(x):
@@ -631,7 +697,7 @@ def some_of(kind, arguments):
         return [{"command": command, "mark": mark} for command in some_of("Command", ()) for mark in range(12)]
     everything = list(inside(arguments))
     if kind == "List":
-        return [it[i:] for it in everything if isinstance(it, list) for i in range(len(it) + 1)]
+        return [it[i:] for it in everything if isinstance(it, list) and len(it) < 300 for i in range(len(it) + 1)]
     pairs = [it for it in everything if isinstance(it, tuple) and len(it) == 2 and isinstance(it[1], dict) and "running" in it[1]]
     if kind == "HeldEntry":
         return pairs + PLAIN[kind]
@@ -652,11 +718,23 @@ def field_of(x, name):
     raise Stuck(f"{name} of {x!r}")
 
 
+def without_brackets(node):
+    while node.kind == "brackets":
+        node = node.parts[0]
+    return node
+
+
+def is_name(node, name):
+    return node.kind == "name" and node.value == name
+
+
 class Writer:
     """Writes terms as Python."""
 
     def __init__(self, computer, module, section=()):
         self.computer, self.module, self.section, self.count = computer, module, section, 0
+        # The text that is written, and of how many values around something is said.
+        self.source, self.depth = getattr(module, "text", ""), 0
 
     def pattern(self, node, place, tests, local):
         if node.kind == "brackets":
@@ -753,11 +831,21 @@ class Writer:
             paths = self.module.uses.get(inner.value, [])
             if any(path.endswith(("TheVariants", ".specs.Json", ".specs.Token")) for path in paths):
                 return f"Made({node.value[0]!r})"
+            if node.value[0][0].isupper() and any(".declared." in path for path in paths):
+                return f"Made({node.value[0]!r})"
+        if node.value[0] == "it" and inner.kind == "field" and inner.value[0] == "eq-value":
+            return "curried(2, same)"
         return f"field({self.term(inner, local)}, {node.value[0]!r})"
 
     def of_operator(self, node, local):
-        word = node.value[0]
+        word, first = node.value[0], node.parts[0]
+        if word in ("≡", "≢", "≤", "<") and first.kind == "apply" and first.parts[0].kind == "name" and first.parts[0].value == "¬":
+            # That something does not hold is said of all that follows.
+            inner = first.parts[1] if len(first.parts) == 2 else Node("apply", first.parts[1].start, first.end, None, first.parts[1:])
+            return f"(not {self.term(Node('operator', inner.start, node.end, node.value, [inner, node.parts[1]]), local)})"
         left, right = (self.term(it, local) for it in node.parts)
+        if word == "↔":
+            return f"(bool({left}) == bool({right}))"
         if word == "∷":
             return f"([{left}] + {right})"
         if word == "→":
@@ -779,20 +867,29 @@ class Writer:
 
     def of_binder(self, node, local):
         """Of all numbers: those up to a bound that no row comes to; of all values of another type, some."""
-        names, _ = node.value
-        head = node.parts[0].parts[0] if node.parts[0].kind == "apply" else node.parts[0]
-        inner, loops = dict(local), []
+        (names, _, arrow), kind, said = node.value, node.parts[0], node.parts[1]
+        head, inner, wrapped = kind.parts[0] if kind.kind == "apply" else kind, dict(local), []
         for it in names:
             self.count += 1
-            if self.says_none_of(head, node.parts[1]):
+            if arrow == "×":
+                values = self.found_for(it, kind, [said], inner)
+            elif self.says_none_of(head, said):
                 values = "[ANY]"
-            elif head.kind == "name" and head.value == "ℕ":
+            elif head.kind == "name" and head.value == "ℕ" and self.depth < 2:
                 values = f"range({MANY})"
             else:
-                values = self.values_of(it, head, node.parts[1], inner)
+                values = self.values_of(it, kind, said, inner)
             inner[it] = f"x{self.count}"
-            loops.append(f"for {inner[it]} in {values}")
-        return f"all({self.term(node.parts[1], inner)} {' '.join(loops)})"
+            wrapped.append((f"{'any' if arrow == '×' else 'all'}_over", inner[it], values))
+            self.depth += 1
+        body = self.term(said, inner)
+        self.depth -= len(names)
+        for over, name, values in reversed(wrapped):
+            body = f"{over}(lambda {name}: {body}, {values})"
+        return body
+
+    def text(self, node):
+        return self.source[node.start:node.end]
 
     def says_none_of(self, kind, node):
         """Whether something is said of no state."""
@@ -800,6 +897,7 @@ class Writer:
 
     def values_of(self, name, kind, node, local):
         """The list that this value is said to be in, before an arrow, or what it is said to be the value of, or some of its type."""
+        settled = []
         while node.kind in ("binder", "operator") and (node.kind == "binder" or node.value[0] == "→"):
             first = node.parts[0]
             if first.kind == "apply" and [it.value for it in first.parts[:2]] == ["In", name]:
@@ -807,10 +905,88 @@ class Writer:
             words = [it.value for it in first.parts[1].parts] if first.kind == "operator" else []
             if words == ["Some", name] and first.value[0] == "≡":
                 return f"{self.term(first.parts[0], local)}.arguments"
+            if node.kind == "operator" and first.kind == "operator" and first.value[0] == "≡":
+                settled += self.settled(name, first, local)
             node = node.parts[1]
-        if kind.kind == "name" and kind.value in SOME_OF:
-            return f"SOME_OF[{kind.value!r}]"
-        raise Stuck("all values of a type")
+        head, known = kind.parts[0] if kind.kind == "apply" else kind, ", ".join(settled)
+        if head.kind == "name" and head.value in SOME_OF:
+            return f"settled(SOME_OF[{head.value!r}], [{known}])"
+        return f"settled(C.samples.of({self.text(kind)!r}, {max(2, 12 >> self.depth)}), [{known}])"
+
+    def settled(self, name, node, local):
+        """What a premise says that a value, or a field of it, is; or how long it is."""
+        path, place = [], node.parts[0]
+        while place.kind == "field":
+            path, place = [place.value[0], *path], place.parts[0]
+        if place.kind == "apply" and [it.value for it in place.parts if it.kind == "name"] == ["length", name] and len(place.parts) == 2:
+            path, place = ["length"], place.parts[1]
+        if place.kind != "name" or place.value != name:
+            return []
+        try:
+            return [f"({path!r}, lambda: {self.term(node.parts[1], local)})"]
+        except Stuck:
+            return []
+
+    def found_for(self, name, kind, said, local):
+        """Values of which one is to be found: those that what is said of it asks for, and some of its type."""
+        asked = ", ".join(it for node in said for it in self.asked_of(name, node, local))
+        known = "".join(f"{it}, " for it in local.values())
+        most = max(3, 12 >> self.depth)
+        return f"candidates(C, {self.text(kind)!r}, [{asked}], lambda: ({known}), {most})"
+
+    def code(self, form, parts, local):
+        """Code of a list of values, where its parts can be written here."""
+        try:
+            return ["lambda: " + form.format(*(self.term(it, local) for it in parts))]
+        except Stuck:
+            return []
+
+    def asked_of(self, name, node, local):
+        """Code of lists of values that what is said asks this value to be one of."""
+        node = without_brackets(node)
+        if node.kind == "binder" or node.kind == "operator" and node.value[0] in ("×", "⊎", "→"):
+            return [it for part in node.parts for it in self.asked_of(name, part, local)]
+        if node.kind == "operator" and node.value[0] == "≡":
+            one, other = node.parts
+            return self.asked_to_be(name, one, other, local) + self.asked_to_be(name, other, one, local)
+        if node.kind == "apply" and node.parts[0].kind == "name":
+            return self.asked_by_word(name, node.parts[0].value, node.parts[1:], local)
+        return []
+
+    def asked_to_be(self, name, one, other, local):
+        """What a value is, where a term with it is the same as another."""
+        if is_name(one, name):
+            return self.code("[{}]", [other], local)
+        if one.kind == "operator" and one.value[0] == "++" and is_name(one.parts[0], name):
+            return self.code("fronts_of([{}])", [other], local)
+        if one.kind == "apply" and len(one.parts) > 1 and is_name(one.parts[1], name):
+            forms = {("Some", 2): "list({}.arguments)", ("take", 3): "[len({})]"}
+            form = forms.get((one.parts[0].value, len(one.parts)))
+            return self.code(form, [other], local) if form else []
+        return []
+
+    def asked_by_word(self, name, word, given, local):
+        """What a value is by what some words say of it: of bytes that are read or written, of lists and of JSON."""
+        if word in ("Consumes", "Appends") and len(given) == 3:
+            all_bytes = "cut_off({}, {})" if word == "Consumes" else "grown_by({}, {})"
+            return self.asked_of_bytes(name, all_bytes, without_brackets(given[2]), given[:2], local)
+        if word == "In" and len(given) == 2 and is_name(given[0], name):
+            return self.code("{}", given[1:], local)
+        if word == "IsJson" and len(given) == 2 and is_name(given[1], name):
+            return self.code("list(L['read'][1]({}).arguments)", given[:1], local)
+        return []
+
+    def asked_of_bytes(self, name, all_bytes, it, known, local):
+        """What a value is that is all of these bytes, or a part of them, or counts the first of them."""
+        if is_name(it, name):
+            return self.code(all_bytes, known, local)
+        if it.kind == "operator" and it.value[0] == "++" and is_name(it.parts[0], name):
+            return self.code(f"fronts_of({all_bytes})", known, local)
+        if it.kind == "operator" and it.value[0] == "++" and is_name(it.parts[1], name):
+            return self.code(f"[xs[len({{}}):] for xs in {all_bytes}]", [it.parts[0], *known], local)
+        if it.kind == "apply" and it.parts[0].value == "take" and is_name(it.parts[1], name):
+            return self.code(f"[len(xs) for xs in {all_bytes}]", known, local)
+        return []
 
     def of_name(self, node, local):
         return self.called(node.value, [], local)
@@ -890,9 +1066,7 @@ class Uses:
 def computed(computer, uses, text):
     """Whether the clause of a row holds, as it computes."""
     writer = Writer(computer, uses)
+    writer.source = text
     code = writer.term(term_of(text), {})
-    space = {
-        "Stuck": Stuck, "Made": Made, "C": computer, "L": LIBRARY, "V": VALUES, "curried": curried, "applied": applied,
-        "same": same, "field": field_of, "SOME_OF": SOME_OF, "ANY": Any(), "then": then,
-    }
+    space = space_of(computer)
     return compile(code, "row", "eval"), space

@@ -227,12 +227,12 @@ class Reader:
         while self.sees("(", "{") and self.peek(1) and self.binds():
             more = self.take()
             inner = self.binder(more, ")" if more.text == "(" else "}")
-            return Node("binder", first.start, inner.end, (names, closing), [kind, inner])
+            return Node("binder", first.start, inner.end, (names, closing, "→"), [kind, inner])
         arrow = self.take()
         if arrow.text not in ("→", "×"):
             raise Unknown(f"{arrow.text!r} after a name with its type")
         body = self.term(0 if arrow.text == "→" else 2)
-        return Node("binder", first.start, body.end, (names, closing), [kind, body])
+        return Node("binder", first.start, body.end, (names, closing, arrow.text), [kind, body])
 
     def binds(self):
         """Whether a name with its type follows."""

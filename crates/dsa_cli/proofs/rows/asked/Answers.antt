@@ -9,7 +9,8 @@ use Rattle.clap.specs.Walk.{Row, Text, first_of, one_of}
 use Rattle.dsa_chosen.specs.Words.{unknown_word}
 use Rattle.clap.specs.declared.error.kind.ErrorKind.{ErrorKind, TheVariants.{DisplayHelp, DisplayVersion, UnknownArgument}}
 use Rattle.clap.proofs.OnLiterals.{clap_on_literals}
-use Rattle.dsa_cli.specs.declared.options.WrongValue.TheVariants.{Answer, ShowAndJson}
+use Rattle.dsa_cli.specs.declared.options.WrongValue.TheVariants.{Answer, Clash}
+use Rattle.dsa_cli.specs.declared.options.Clash.TheVariants.{ShowAndJson}
 use Rattle.clap.specs.Kinds.{IsAmong}
 use Rattle.dsa_exploration.specs.declared.exploration.Form.{Form}
 use Rattle.dsa_cli.specs.CommandLine.{IsMistaken, IsReportName, faults_of_words, search_form}
@@ -159,7 +160,7 @@ returns-clause-count c = (_, (refl, refl, inr (inr (inr (inl refl)))), refl)
 pub returns-clause-explore : goal.returns-clause-explore
 unfolding clap_on_literals
 returns-clause-explore c =
-    (_, (refl, refl, inr (inr (inr (inr (inr (inr (inr refl))))))), (refl, said_bounds _ _ refl refl, refl, refl))
+    (_, (refl, refl, inr (inr (inr (inr (inr (inr (inr refl))))))), (refl, said_bounds _ _ refl refl, refl, refl, refl, refl))
 
 pub returns-clause-show : goal.returns-clause-show
 unfolding clap_on_literals
@@ -169,11 +170,11 @@ returns-clause-show c =
 pub returns-clause-json_explore : goal.returns-clause-json_explore
 unfolding clap_on_literals
 returns-clause-json_explore c =
-    (_, (refl, refl, inr (inr (inr (inr (inr (inr (inr refl))))))), (refl, said_bounds _ _ refl refl, refl, refl))
+    (_, (refl, refl, inr (inr (inr (inr (inr (inr (inr refl))))))), (refl, said_bounds _ _ refl refl, refl, refl, refl, refl))
 
 pub returns-clause-json_and_show : goal.returns-clause-json_and_show
 unfolding clap_on_literals
-returns-clause-json_and_show c = (_, (refl, refl, inr (inr (inr (inr (inr (inr (inr refl))))))), (refl, refl, refl))
+returns-clause-json_and_show c = (_, (refl, refl, inr (inr (inr (inr (inr (inr (inr refl))))))), (refl, refl))
 
 -- the form of a search that the options of `explore` ask for
 abbrev form_in : Option (Text × List Row) → Form
@@ -190,17 +191,17 @@ returns-clause-no_table c asks = let same = ap form_in asks.1.1 ∙ sym asks.2.3
 pub returns-clause-mistaken_show : goal.returns-clause-mistaken_show
 unfolding clap_on_literals
 returns-clause-mistaken_show c =
-    inr (inr (ShowAndJson, (_, (refl, refl, inr (inr (inr (inr (inr (inr (inr refl))))))), (refl, refl, refl))))
+    inr (inr (Clash ShowAndJson, (_, (refl, refl, inr (inr (inr (inr (inr (inr (inr refl))))))), (refl, refl))))
 
 pub returns-clause-few_states : goal.returns-clause-few_states
 unfolding clap_on_literals
 returns-clause-few_states c =
-    (_, (refl, refl, inr (inr (inr (inr (inr (inr (inr refl))))))), (refl, said_bounds _ _ refl refl, refl, refl))
+    (_, (refl, refl, inr (inr (inr (inr (inr (inr (inr refl))))))), (refl, said_bounds _ _ refl refl, refl, refl, refl, refl))
 
 pub returns-clause-long_keys : goal.returns-clause-long_keys
 unfolding clap_on_literals
 returns-clause-long_keys c =
-    (_, (refl, refl, inr (inr (inr (inr (inr (inr (inr refl))))))), (refl, said_bounds _ _ refl refl, refl, refl))
+    (_, (refl, refl, inr (inr (inr (inr (inr (inr (inr refl))))))), (refl, said_bounds _ _ refl refl, refl, refl, refl, refl))
 
 pub returns-clause-other_states : goal.returns-clause-other_states
 unfolding clap_on_literals

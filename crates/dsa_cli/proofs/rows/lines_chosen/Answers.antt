@@ -110,11 +110,11 @@ returns-clause-a_range c is = let none = is.2 in cc
 
 pub returns-clause-show_and_json : goal.returns-clause-show_and_json
 unfolding clap_on_literals
-returns-clause-show_and_json c = (refl, refl, refl)
+returns-clause-show_and_json c = (refl, refl)
 
 pub returns-clause-show_alone : goal.returns-clause-show_alone
 unfolding clap_on_literals
-returns-clause-show_alone c is = let none = is.2 in cc
+returns-clause-show_alone c is = let none = is.1 in cc
 
 pub returns-clause-json_alone : goal.returns-clause-json_alone
 unfolding clap_on_literals

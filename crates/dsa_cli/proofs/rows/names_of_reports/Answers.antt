@@ -138,7 +138,7 @@ returns-clause-no_friendly c asked = let same = asked.2.left_out refl in cc
 
 pub returns-clause-asks_explore : goal.returns-clause-asks_explore
 unfolding clap_on_literals
-returns-clause-asks_explore c = (refl, said_bounds _ _ refl refl, refl, refl)
+returns-clause-asks_explore c = (refl, said_bounds _ _ refl refl, refl, refl, refl, refl)
 
 pub returns-clause-asks_show : goal.returns-clause-asks_show
 unfolding clap_on_literals
@@ -146,11 +146,11 @@ returns-clause-asks_show c = (refl, said_bounds _ _ refl refl, refl, refl)
 
 pub returns-clause-asks_json_lines : goal.returns-clause-asks_json_lines
 unfolding clap_on_literals
-returns-clause-asks_json_lines c = (refl, said_bounds _ _ refl refl, refl, refl)
+returns-clause-asks_json_lines c = (refl, said_bounds _ _ refl refl, refl, refl, refl, refl)
 
 pub returns-clause-asks_a_table : goal.returns-clause-asks_a_table
 unfolding clap_on_literals
-returns-clause-asks_a_table c = (refl, said_bounds _ _ refl refl, refl, refl)
+returns-clause-asks_a_table c = (refl, said_bounds _ _ refl refl, refl, refl, refl, refl)
 
 pub returns-clause-json_is_no_table : goal.returns-clause-json_is_no_table
 unfolding clap_on_literals

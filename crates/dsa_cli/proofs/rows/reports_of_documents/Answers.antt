@@ -1,4 +1,5 @@
 use Rattle.dsa_cli.proofs.rows.reports_of_documents.Goals as goal
+use Rattle.std.proofs.Common.{◌≡◌, false, true, ⊎_elim}
 
 pub returns-clause-no_explanation : goal.returns-clause-no_explanation
 returns-clause-no_explanation c bytes text is = let same = is.0 in cc
@@ -34,7 +35,11 @@ pub returns-clause-exploration : goal.returns-clause-exploration
 returns-clause-exploration c bytes text is = is
 
 pub returns-clause-row_shown : goal.returns-clause-row_shown
-returns-clause-row_shown c bytes text is = is
+returns-clause-row_shown c bytes text is = ⊎_elim (λ row. row)
+    (λ answer. let clash : false ≡ true = answer.called in absurd cc) is
+
+pub returns-clause-answer_shown : goal.returns-clause-answer_shown
+returns-clause-answer_shown c bytes text is = ⊎_elim (λ row. absurd row) (λ answer. answer) is
 
 pub returns-clause-conformance : goal.returns-clause-conformance
 returns-clause-conformance c bytes text is = is

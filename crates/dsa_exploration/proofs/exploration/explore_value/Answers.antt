@@ -21,7 +21,7 @@ returns-clause-ok c = λ bytes json. c.in_ok-rendering.ensures bytes (record {
   runnable = c.in_ok-begun.ensures.ok bytes json;
   events = refl;
   said = c.in-Ok.ensures.script;
-  no_watches = c.in-Ok.ensures.watches;
+  watched = c.in-Ok.ensures.watches;
   entries_called = c.in-Ok.ensures.labels;
   acts_called = c.in-Ok.ensures.acts;
 }) refl

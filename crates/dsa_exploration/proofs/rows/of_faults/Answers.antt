@@ -128,7 +128,7 @@ returns-clause-question c = λ form bounds memory.
           };
           events = refl;
           said = refl;
-          no_watches = refl;
+          watched = refl;
           entries_called = refl;
           acts_called = refl;
         };

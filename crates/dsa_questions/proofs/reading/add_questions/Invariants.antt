@@ -1,12 +1,10 @@
 use Rattle.dsa_questions.proofs.reading.add_questions.Given as goal
-use Rattle.std.proofs.Common.{◌≡◌, drop, map, string_bytes}
+use Rattle.std.proofs.Common.{◌≡◌, drop, map}
 use Rattle.serde_json.specs.View.{view}
-use Rattle.dsa_questions.specs.Reading.{question_asked, questions_onto}
+use Rattle.dsa_questions.specs.{Formed.{as_names}, Reading.{inquiry_of, questions_onto}}
 
 -- it is left to add the others
 abbrev pub invariant-loop-item : goal.invariant-loop-item
 invariant-loop-item l =
-    questions_onto l.kind (map string_bytes l.parties.labels.items) (map string_bytes l.parties.acts.items)
-    (map question_asked l.questions.items) (map view (drop l.item-index l.items))
-    ≡ questions_onto l.kind (map string_bytes l.parties.labels.items) (map string_bytes l.parties.acts.items)
-    (map question_asked l.initial.questions.items) (map view l.items)
+    questions_onto l.kind (as_names l.naming) (inquiry_of l.questions) (map view (drop l.item-index l.items))
+    ≡ questions_onto l.kind (as_names l.naming) (inquiry_of l.initial.questions) (map view l.items)

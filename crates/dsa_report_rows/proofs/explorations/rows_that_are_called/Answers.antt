@@ -1,5 +1,5 @@
 use Rattle.dsa_report_rows.proofs.explorations.rows_that_are_called.Goals as goal
-use Rattle.std.proofs.Common.{◌≡◌, List, [], ◌∷◌, ◌++◌, length, length-append, ap, arith}
+use Rattle.std.proofs.Common.{◌≡◌, List, [], ◌∷◌, ◌++◌, length, length-append, ap, ⊎_elim, arith}
 use Rattle.dsa_explore.specs.declared.found.Found.{Found}
 
 pub returns-clause-no_row : goal.returns-clause-no_row
@@ -8,7 +8,11 @@ returns-clause-no_row c row is =
     absurd (omega (arith, long, length-append is.before (row ∷ is.after)))
 
 pub returns-clause-bounded : goal.returns-clause-bounded
-returns-clause-bounded c bounds name bytes is = let clash : 97 ∷ [] ≡ [] = is.0 in absurd cc
+returns-clause-bounded c bounds name bytes is = ⊎_elim
+    (λ row. let clash : 97 ∷ [] ≡ [] = row.0 in absurd cc) (λ answer. let clash : 97 ∷ [] ≡ [] = answer.0 in absurd cc)
+    is
 
 pub returns-clause-complete : goal.returns-clause-complete
-returns-clause-complete c bounds name bytes is = let clash : 97 ∷ [] ≡ [] = is.0 in absurd cc
+returns-clause-complete c bounds name bytes is = ⊎_elim
+    (λ row. let clash : 97 ∷ [] ≡ [] = row.0 in absurd cc) (λ answer. let clash : 97 ∷ [] ≡ [] = answer.0 in absurd cc)
+    is

@@ -10,3 +10,6 @@ returns-clause-no_steps c form text names page =
 
 pub returns-clause-whole : goal.returns-clause-whole
 returns-clause-whole c bytes text is = (refl, inl is)
+
+pub returns-clause-same_writer : goal.returns-clause-same_writer
+returns-clause-same_writer c form first now taken has = has.same

@@ -15,3 +15,6 @@ returns-clause-older c is = omega (arith, is.2.replay.within, is.2.same_capacity
 
 pub returns-clause-other_reply : goal.returns-clause-other_reply
 returns-clause-other_reply c = search rules
+
+pub returns-clause-of_no_administrator : goal.returns-clause-of_no_administrator
+returns-clause-of_no_administrator c is = omega (arith, is.answered.2.replay.bounded, is.answered.2.same_capacity)

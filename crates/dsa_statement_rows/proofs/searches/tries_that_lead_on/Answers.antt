@@ -14,3 +14,6 @@ returns-clause-from_its_queue c parties w w' by leads = record {
 
 pub returns-clause-nowhere : goal.returns-clause-nowhere
 returns-clause-nowhere c w w' tried led = let none : None ≡ Some w' = led.leads in absurd cc
+
+pub returns-clause-no_step : goal.returns-clause-no_step
+returns-clause-no_step c w w' tried taken = let none : None ≡ Some w' = taken.leads in absurd cc

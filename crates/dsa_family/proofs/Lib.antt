@@ -1,0 +1,4 @@
+mod Texts
+mod Sets
+mod Counts
+mod Makings

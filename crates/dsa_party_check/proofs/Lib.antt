@@ -1,0 +1,3 @@
+pub mod Led
+pub mod Deep
+pub mod Asked

@@ -1,0 +1,13 @@
+pub mod Complaints
+pub mod Rules
+pub mod PartyFlaws
+pub mod Strays
+pub mod OddKeys
+pub mod Flaws
+pub mod Expectations
+pub mod QuestionFlaws
+pub mod Pointing
+pub mod PartyLines
+pub mod PartyObjects
+pub mod PartyCheck
+pub mod WorkedParties
